@@ -1,0 +1,37 @@
+-- `numbers::write_u32` meets its contract: inside the bytes the number is stored, swapped twice, and outside them nothing is.
+-- Assumes nothing.
+use denote.Ref.{now}
+use mathlib.Core.Path.{ap, _∙_}
+use native.Mathlib.Omega.{arith}
+use borrow.Author.Needs.{needs}
+use Rattle.numbers.proofs.Swapped.{stored-swapped-twice}
+use Rattle.numbers.proofs.Ways.{inside, nothing-written}
+use Rattle.numbers.proofs.write_u32.Statement.{statement}
+use Rattle.numbers.proofs.write_u32.Tie as tie
+
+lies-within-requires : tie.Need-lies-within-requires
+lies-within-requires c κs = search needs
+
+swap-u32-requires : tie.Need-swap-u32-requires
+swap-u32-requires c κs = search needs
+
+put-little-u32-requires : tie.Need-put-little-u32-requires
+put-little-u32-requires c κs =
+    let a = c .before .before .before .before .before .args in
+    inside (now (a .bytes)) (a .at) 4 _ (c .before .before .before .lies-within .ensures) (c .before .before .if1 .taken)
+
+same-length : tie.Need-same-length
+same-length c = search needs
+
+returns : tie.Need-returns
+returns c =
+    let a = c .before .before .before .before .before .before .before .before .args in
+    c .before .before .put-little-u32 .ensures
+    ∙ stored-swapped-twice 4 (now (a .bytes)) (a .at) (a .number) _ (c .before .before .before .swap-u32 .ensures) (omega arith)
+
+returns-2 : tie.Need-returns-2
+returns-2 c = nothing-written _ _ _ _ (c .before .lies-within .ensures) _ (c .if1 .left)
+
+pub write-u32-spec : {M : Type 1} → statement M
+write-u32-spec =
+    tie.close (tie.spec lies-within-requires swap-u32-requires put-little-u32-requires same-length returns returns-2)
