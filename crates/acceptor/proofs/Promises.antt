@@ -1,0 +1,182 @@
+-- The promises of every call, for the acceptor: it acts or refuses by its numbers, a refusal keeps all, no cell but the instance's changes, a possible
+-- cell stays possible, and what is sent keeps the packet table. Each is wire's theorem for any player, from the facts of this player's rule and tables.
+-- Assumes nothing.
+use Prim.Native.Nat.{ℕ, _+_, _*_, _≤_, _<_, _^_}
+use mathlib.Core.Path.{_≡_, refl, sym, ap, subst}
+use mathlib.Core.Bool.{true, false}
+use mathlib.Core.List.{List, [], _∷_}
+use native.Mathlib.Omega.{arith}
+use lib.Dec.{lit<}
+use lib.ListN.{length, length-replicate}
+use Rattle.wire.specs.declared.Instance.{Instance}
+use Rattle.wire.specs.declared.Message.{Message}
+use Rattle.wire.specs.declared.Message.the-variants.{Prepare, Promise, Propose, Vote}
+use Rattle.wire.specs.declared.Place.{Place}
+use Rattle.wire.specs.declared.Place.the-variants.{At}
+use Rattle.wire.specs.declared.Round.{Round}
+use Rattle.wire.specs.declared.Value.{Value}
+use Rattle.wire.specs.declared.Verdict.the-variants.{ToLeader, ToLearners}
+use Rattle.wire.specs.Rounds.{theRound, none, ownedOr0, ownedNot0, atMost}
+use Rattle.wire.specs.Values.{null}
+use Rattle.wire.specs.Table.{keepsTable, isVoteBy}
+use Rattle.wire.specs.Message.{fieldsOf}
+use Rattle.wire.specs.Columns.{roundAt, valueAt}
+use Rattle.wire.specs.Promises.{OneOf, first, later, packetRefusals, NumbersAre, RefusalKeepsAll, UsesCell, OtherCellsStay, PossibleStays, SendsKept, FittingStays}
+use Rattle.wire.specs.Step.{Ruling, refused, sends, placed}
+use Rattle.wire.specs.Verdict.{verdictNumber, saysSend}
+use Rattle.wire.proofs.Columns.{round-there, round-apart, value-there, value-apart, fresh-number, fresh-value, below-set, below-value, below-fresh}
+use Rattle.wire.proofs.Eliminators.{prepare-elim, propose-elim}
+use Rattle.wire.proofs.Ladder.{need-elim, both-true, and-true}
+use Rattle.wire.proofs.Laws.{one-of, Writable, prepare-owned, propose-owned}
+use Rattle.wire.proofs.Parts.{ValueFits, prepare-fits, propose-fits, propose-value-fits, promise-writable, vote-writable}
+use Rattle.wire.proofs.Promises.{RuledBy, NextCell, SendsOnly, refusal-keeps-all, numbers-are, other-cells-stay, possible-stays, sends-kept, fitting-stays}
+use Rattle.wire.proofs.Rounds.{owned-or-0, zero-owned}
+use Rattle.wire.proofs.Steps.{PlacedBy, placed-index, placed-by}
+use Rattle.wire.proofs.Votes.{never-voted, vote-rises, vote-itself}
+use Rattle.quorum.specs.declared.Settings.{Settings}
+use Rattle.acceptor.specs.declared.Cell.{Cell}
+use Rattle.acceptor.specs.Acceptor.{cell, freshCell, possible, obeying, rule, Tables, freshTables, cellAt, withCell, place, acceptor, acceptorStep, Sized, Within, Fitting}
+use Rattle.acceptor.proofs.Ways.{promising, voting, allowed-tables, index-within}
+
+-- ---- by the kinds that an acceptor takes
+
+-- what holds of both kinds, obeyed or refused, and of the refusal of any other kind, holds of the rule
+module _ (P : Ruling Cell → Type 0) (own : ℕ) (c : Cell) (m : Message) (other : P (refused 6)) (impossible : P (refused 17)) (below : P (refused 10)) where
+  rule-elim : ((i : Instance) (r : Round) → m ≡ Prepare i r → possible c ≡ true → atMost (c .round) r ≡ true → P (promising own i r c))
+      → ((i : Instance) (r : Round) (v : Value) → m ≡ Propose i r v → P (voting own i r v c)) → P (rule own c m)
+  unfolding rule obeying
+  rule-elim promises votes =
+      prepare-elim P _ _ m
+      (λ i r e. need-elim P _ _ _ impossible λ fine. need-elim P _ _ _ below λ low. promises i r e fine low)
+      (propose-elim P _ _ m (λ i r v e. need-elim P _ _ _ impossible λ _. need-elim P _ _ _ below λ _. votes i r v e) other)
+
+place-elim : (Such : ℕ → Type 0) (N : ℕ) (m : Message) → Such 6 → Such 8 → PlacedBy Such (place N m)
+unfolding place
+place-elim Such N m six eight =
+    prepare-elim (PlacedBy Such) _ _ m (λ i r _. placed-by Such N i eight) (propose-elim (PlacedBy Such) _ _ m (λ i r v _. placed-by Such N i eight) six)
+
+-- a place that a message has is an instance's below N
+placed-below : (N : ℕ) (m : Message) (index : ℕ) → place N m ≡ At index → index < N
+unfolding place
+placed-below N m =
+    prepare-elim (λ p. (index : ℕ) → p ≡ At index → index < N) _ _ m (λ i r _ index e. placed-index N i index e .1)
+    (propose-elim (λ p. (index : ℕ) → p ≡ At index → index < N) _ _ m (λ i r v _ index e. placed-index N i index e .1)
+    (λ index e. let z : _≡_ {A = ℕ} 0 1 = cc in absurd (omega arith)))
+
+-- ---- cells and tables
+
+same-cell : {c d : Cell} → c .round ≡ d .round → c .«vote_round» ≡ d .«vote_round» → c .value ≡ d .value → c ≡ d
+same-cell r b v = λ i. cell (r i) (b i) (v i)
+
+pub cell-there : (t : Tables) (index : ℕ) (c : Cell) → Within t index → cellAt (withCell t index c) index ≡ c
+cell-there t index c w =
+    same-cell (round-there (t .rounds) index (c .round) (w .in-rounds)) (round-there (t .voteRounds) index (c .«vote_round») (w .in-vote-rounds))
+    (value-there (t .values) index (c .value) (w .in-values))
+
+pub cell-apart : (t : Tables) (index other : ℕ) (c : Cell) → (index ≡ other → ⊥) → cellAt (withCell t index c) other ≡ cellAt t other
+cell-apart t index other c differ =
+    same-cell (round-apart (t .rounds) index other (c .round) differ) (round-apart (t .voteRounds) index other (c .«vote_round») differ)
+    (value-apart (t .values) index (c .value) other differ)
+
+pub fresh-cells : (N index : ℕ) → index < N → cellAt (freshTables N) index ≡ freshCell
+fresh-cells N index inside =
+    same-cell (ap theRound (fresh-number N 0 index inside)) (ap theRound (fresh-number N 4294967295 index inside)) (fresh-value N index inside)
+
+pub fresh-possible : possible freshCell ≡ true
+unfolding possible
+fresh-possible = and-true zero-owned (sym (never-voted (theRound 0) none null refl))
+
+pub fresh-sized : (N : ℕ) → Sized N (freshTables N)
+fresh-sized N = record { of-rounds = length-replicate N 0; of-vote-rounds = length-replicate N 4294967295; of-values = length-replicate (2 * N) 0 }
+
+pub fresh-fitting : (N : ℕ) → Fitting (freshTables N)
+fresh-fitting N = record {
+  fitting-rounds = below-fresh (2 ^ 32) N 0 (lit< tt);
+  fitting-vote-rounds = below-fresh (2 ^ 32) N 4294967295 (lit< tt);
+  fitting-values = below-fresh (2 ^ 64) (2 * N) 0 (lit< tt);
+}
+
+-- ---- what the rule stores and sends
+
+promised-possible : (c : Cell) (r : Round) → ownedNot0 r ≡ true → possible c ≡ true → atMost (c .round) r ≡ true → possible (cell r (c .«vote_round») (c .value)) ≡ true
+unfolding possible
+promised-possible c r owned fine low =
+    and-true (owned-or-0 r owned) (vote-rises (c .round) r (c .«vote_round») (c .value) low (both-true (ownedOr0 (c .round)) (isVoteBy (c .round) (c .«vote_round») (c .value)) fine .1))
+
+voted-possible : (r : Round) (v : Value) → ownedOr0 r ≡ true → possible (cell r r v) ≡ true
+unfolding possible
+voted-possible r v owned = and-true owned (vote-itself r v owned)
+
+promise-sent : {own : ℕ} {t : Tables} → own ≤ 6 → Fitting t → (index : ℕ) (i : Instance) (r : Round) → Writable (Prepare i r) → possible (cellAt t index) ≡ true
+    → atMost (roundAt (t .rounds) index) r ≡ true → Writable (Promise own i r (roundAt (t .voteRounds) index) (valueAt (t .values) index))
+unfolding possible
+promise-sent {own} {t} few fits index i r w fine low =
+    let c = cellAt t index in
+    promise-writable own i r (c .«vote_round») (c .value) few (prepare-fits i r w) (fits .fitting-vote-rounds index)
+    (record { high-fits = fits .fitting-values (2 * index); low-fits = fits .fitting-values (2 * index + 1) }) (prepare-owned i r (w .kept))
+    (vote-rises (c .round) r (c .«vote_round») (c .value) low (both-true (ownedOr0 (c .round)) (isVoteBy (c .round) (c .«vote_round») (c .value)) fine .1))
+
+vote-sent : {own : ℕ} → own ≤ 6 → (i : Instance) (r : Round) (v : Value) → Writable (Propose i r v) → Writable (Vote own i r v)
+vote-sent {own} few i r v w = vote-writable own i r v few (propose-fits i r v w) (propose-value-fits i r v w) (propose-owned i r v (w .kept))
+
+fitting-cell : (t : Tables) (index : ℕ) (c : Cell) → Fitting t → c .round .0 < 2 ^ 32 → c .«vote_round» .0 < 2 ^ 32 → ValueFits (c .value) → Fitting (withCell t index c)
+fitting-cell t index c fits round vote value = record {
+  fitting-rounds = below-set (2 ^ 32) (t .rounds) index (c .round .0) (fits .fitting-rounds) round;
+  fitting-vote-rounds = below-set (2 ^ 32) (t .voteRounds) index (c .«vote_round» .0) (fits .fitting-vote-rounds) vote;
+  fitting-values = below-value (t .values) index (c .value) (fits .fitting-values) (value .high-fits) (value .low-fits);
+}
+
+-- ---- the promises
+
+-- Order for a packet: 7, 1 to 5, 6, 8, 17, 10.
+abbrev pub refusals : List ℕ
+refusals = packetRefusals (8 ∷ 17 ∷ 10 ∷ [])
+
+abbrev pub verdicts : List ℕ
+verdicts = verdictNumber ToLeader ∷ verdictNumber ToLearners ∷ []
+
+module _ (s : Settings) (own : ℕ) where
+  pub acceptor-numbers : NumbersAre (acceptorStep s own) refusals verdicts
+  unfolding acceptorStep acceptor
+  acceptor-numbers =
+      numbers-are (acceptor s own) (8 ∷ 17 ∷ 10 ∷ []) verdicts
+      (λ m. place-elim (λ n. OneOf n refusals) (s .instances) m (one-of 6 refusals refl) (one-of 8 refusals refl))
+      (λ c m. rule-elim (RuledBy refusals verdicts) own c m (one-of 6 refusals refl) (one-of 17 refusals refl) (one-of 10 refusals refl)
+      (λ i r _ _ _. first) (λ i r v _. later first))
+
+  pub acceptor-refusal-keeps-all : RefusalKeepsAll (acceptorStep s own)
+  unfolding acceptorStep
+  acceptor-refusal-keeps-all = refusal-keeps-all (acceptor s own)
+
+  pub acceptor-other-cells-stay : OtherCellsStay (acceptorStep s own) cellAt (UsesCell (acceptor s own))
+  unfolding acceptorStep acceptor
+  acceptor-other-cells-stay = other-cells-stay (acceptor s own) cell-apart
+
+  pub acceptor-possible-stays : PossibleStays (acceptorStep s own) cellAt possible
+  unfolding acceptorStep acceptor
+  acceptor-possible-stays =
+      possible-stays (acceptor s own) cell-apart
+      (λ t m index c allowed stands. cell-there t index c (index-within t index (allowed-tables s own t allowed .sized) (placed-below (s .instances) m index stands)))
+      possible
+      (λ c m kept. rule-elim (NextCell (λ d. possible d ≡ true)) own c m tt tt tt
+      (λ i r e fine low. promised-possible c r (prepare-owned i r (subst (λ n. keepsTable (fieldsOf n) ≡ true) e kept)) fine low)
+      (λ i r v e. voted-possible r v (propose-owned i r v (subst (λ n. keepsTable (fieldsOf n) ≡ true) e kept))))
+
+  pub acceptor-sends-kept : SendsKept (acceptorStep s own) Fitting
+  unfolding acceptorStep acceptor saysSend
+  acceptor-sends-kept =
+      sends-kept (acceptor s own) Fitting
+      (λ t m index allowed fits writable. rule-elim (SendsOnly Writable) own (cellAt t index) m refl refl refl
+      (λ i r e fine low. promise-sent (allowed-tables s own t allowed .own-few) fits index i r (subst Writable e writable) fine low)
+      (λ i r v e. vote-sent (allowed-tables s own t allowed .own-few) i r v (subst Writable e writable)))
+      (λ m. place-elim (λ n. saysSend n ≡ false) (s .instances) m refl refl)
+
+  pub acceptor-fitting-stays : FittingStays (acceptorStep s own) Fitting
+  unfolding acceptorStep acceptor
+  acceptor-fitting-stays =
+      fitting-stays (acceptor s own) Fitting
+      (λ t m index _ fits writable. rule-elim (NextCell (λ c. Fitting (withCell t index c))) own (cellAt t index) m tt tt tt
+      (λ i r e _ _. fitting-cell t index (cell r (roundAt (t .voteRounds) index) (valueAt (t .values) index)) fits (prepare-fits i r (subst Writable e writable) .round-fits)
+      (fits .fitting-vote-rounds index) (record { high-fits = fits .fitting-values (2 * index); low-fits = fits .fitting-values (2 * index + 1) }))
+      (λ i r v e. let round = propose-fits i r v (subst Writable e writable) .round-fits in
+      fitting-cell t index (cell r r v) fits round round (propose-value-fits i r v (subst Writable e writable))))
