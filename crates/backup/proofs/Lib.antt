@@ -1,0 +1,4 @@
+mod Rules
+pub mod Ways
+pub mod Next
+pub mod Promises
