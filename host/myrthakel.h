@@ -1,0 +1,112 @@
+/*
+ * The exported calls of the proved players, for a host in C or C++.
+ *
+ * A call takes whatever packet, tables and settings it is given, and answers a verdict or a refusal. It does no input or output, keeps nothing, and
+ * never blocks. A refusal leaves every byte that was lent as it came.
+ *
+ * What the host owes: each pointer refers to as many elements as the length after it says (where the length is 0, the pointer is not null all the
+ * same), what is lent to one call does not overlap, and a table is lent to one call at a time. No call can check these.
+ *
+ * Settings, the same in every call of a run: acceptors (M) is 3, 5 or 7; instances (N) is 1 to 1024. A packet is 36 bytes. A value in a table is two
+ * numbers: the first eight of its sixteen bytes as one big-endian number, then the last eight.
+ */
+#ifndef MYRTHAKEL_H
+#define MYRTHAKEL_H
+
+#include <stddef.h>
+#include <stdint.h>
+
+#ifdef __cplusplus
+extern "C" {
+#endif
+
+/* The mark "none" among rounds: a fresh acceptor's vote round. */
+#define MYRTHAKEL_NONE UINT32_C(4294967295)
+
+#define MYRTHAKEL_PACKET_LENGTH 36
+
+/* Verdicts: what to do with the packet as the call left it. */
+enum {
+    MYRTHAKEL_TO_ACCEPTORS = 101,
+    MYRTHAKEL_TO_LEADER = 102,
+    MYRTHAKEL_TO_LEARNERS = 103,
+    MYRTHAKEL_HOLD = 104,
+    MYRTHAKEL_DECIDED = 105,
+    MYRTHAKEL_DONE = 106
+};
+
+/* Refusals, in the paper's numbers. */
+enum {
+    MYRTHAKEL_WRONG_LENGTH = 1,
+    MYRTHAKEL_WRONG_MARK = 2,
+    MYRTHAKEL_WRONG_VERSION = 3,
+    MYRTHAKEL_UNKNOWN_TYPE = 4,
+    MYRTHAKEL_BROKEN_FIELD = 5,
+    MYRTHAKEL_WRONG_KIND = 6,
+    MYRTHAKEL_NOT_ALLOWED = 7,
+    MYRTHAKEL_INSTANCE_BEYOND = 8,
+    MYRTHAKEL_SENDER_BEYOND = 9,
+    MYRTHAKEL_ROUND_BELOW = 10,
+    MYRTHAKEL_NOT_ASKED = 11,
+    MYRTHAKEL_NO_INSTANCE_LEFT = 12,
+    MYRTHAKEL_OTHER_VALUE = 13,
+    MYRTHAKEL_ALREADY_DECIDED = 14,
+    MYRTHAKEL_ALREADY_COUNTED = 15,
+    MYRTHAKEL_NO_ROUND_LEFT = 16,
+    MYRTHAKEL_IMPOSSIBLE_CELL = 17
+};
+
+/*
+ * The primary. Reads a request from the packet and writes a propose over it, for the acceptors. The record is a slice of one number, the next
+ * instance, fresh 0; it rises by 1 with each request obeyed. Refusals: 7, 1 to 5, 6, 17, 12.
+ */
+uint32_t myrthakel_primary_step(uint32_t acceptors, uint32_t instances,
+                                uint8_t *packet, size_t packet_length,
+                                uint32_t *next, size_t next_length);
+
+/*
+ * An acceptor, with its own number below M. Reads a prepare or a propose from the packet and writes a promise over it, for the leader, or a vote, for the
+ * learners. Tables: N rounds (fresh 0), N vote rounds (fresh none) and 2N numbers of values (fresh 0); the cell of the packet's instance changes
+ * alone. Refusals: 7, 1 to 5, 6, 8, 17, 10.
+ */
+uint32_t myrthakel_acceptor_step(uint32_t acceptors, uint32_t instances, uint32_t own,
+                                 uint8_t *packet, size_t packet_length,
+                                 uint32_t *rounds, size_t rounds_length,
+                                 uint32_t *vote_rounds, size_t vote_rounds_length,
+                                 uint64_t *values, size_t values_length);
+
+/*
+ * A backup, with its own number 1 to 3. Tables, for both calls: N rounds (fresh 0), N phases (0 idle, 1 asking, 2 proposed; fresh 0), N sets (bit i for
+ * acceptor i; fresh 0), N best vote rounds (fresh none), 2N numbers of best values and 2N of own values (fresh 0).
+ *
+ * A start takes an instance, any floor, and a value as two halves, and writes a prepare over the buffer of 36 bytes, which it does not read, for the
+ * acceptors. Refusals: 7, 1, 8, 17, 16.
+ */
+uint32_t myrthakel_backup_start(uint32_t acceptors, uint32_t instances, uint32_t own,
+                                uint32_t instance, uint32_t floor, uint64_t value_high, uint64_t value_low,
+                                uint8_t *buffer, size_t buffer_length,
+                                uint32_t *rounds, size_t rounds_length,
+                                uint8_t *phases, size_t phases_length,
+                                uint8_t *sets, size_t sets_length,
+                                uint32_t *best_vote_rounds, size_t best_vote_rounds_length,
+                                uint64_t *best_values, size_t best_values_length,
+                                uint64_t *own_values, size_t own_values_length);
+
+/*
+ * Reads a promise from the packet. It is held, with the packet unchanged, or, where it makes a majority, a propose is written over it, for the
+ * acceptors. Refusals: 7, 1 to 5, 6, 8, 9, 17, 11, 15.
+ */
+uint32_t myrthakel_backup_step(uint32_t acceptors, uint32_t instances, uint32_t own,
+                               uint8_t *packet, size_t packet_length,
+                               uint32_t *rounds, size_t rounds_length,
+                               uint8_t *phases, size_t phases_length,
+                               uint8_t *sets, size_t sets_length,
+                               uint32_t *best_vote_rounds, size_t best_vote_rounds_length,
+                               uint64_t *best_values, size_t best_values_length,
+                               uint64_t *own_values, size_t own_values_length);
+
+#ifdef __cplusplus
+}
+#endif
+
+#endif

@@ -1,0 +1,225 @@
+/* The players as a C program calls them, on cases of the paper: M = 3, N = 8, v is the value that ends in 2a. */
+#include "../myrthakel.h"
+
+#include <stdio.h>
+#include <string.h>
+
+enum { M = 3, N = 8 };
+
+static int passed, failed;
+
+static void expect(int holds, const char *what)
+{
+    if (holds) {
+        passed++;
+    } else {
+        failed++;
+        printf("FAILED: %s\n", what);
+    }
+}
+
+static void put_number(uint8_t *bytes, int width, uint32_t number)
+{
+    for (int i = width - 1; i >= 0; i--) {
+        bytes[i] = (uint8_t)number;
+        number >>= 8;
+    }
+}
+
+/* A packet with a value whose last byte is given and whose others are zero. */
+static void make(uint8_t *packet, uint8_t type, uint32_t number, uint32_t instance, uint32_t round, uint32_t vote_round, uint8_t last)
+{
+    memset(packet, 0, MYRTHAKEL_PACKET_LENGTH);
+    memcpy(packet, "RDE", 3);
+    packet[3] = type;
+    put_number(packet + 4, 2, 1);
+    put_number(packet + 6, 2, number);
+    put_number(packet + 8, 4, instance);
+    put_number(packet + 12, 4, round);
+    put_number(packet + 16, 4, vote_round);
+    packet[35] = last;
+}
+
+typedef struct {
+    uint32_t rounds[N], vote_rounds[N];
+    uint64_t values[2 * N];
+} acceptor;
+
+static void make_fresh(acceptor *a)
+{
+    memset(a, 0, sizeof *a);
+    for (int i = 0; i < N; i++)
+        a->vote_rounds[i] = MYRTHAKEL_NONE;
+}
+
+static uint32_t acceptor_step(acceptor *a, uint8_t *packet, size_t length)
+{
+    return myrthakel_acceptor_step(M, N, 0, packet, length, a->rounds, N, a->vote_rounds, N, a->values, 2 * N);
+}
+
+static int is_packet(const uint8_t *packet, uint8_t type, uint32_t number, uint32_t instance, uint32_t round, uint32_t vote_round, uint8_t last)
+{
+    uint8_t wanted[MYRTHAKEL_PACKET_LENGTH];
+    make(wanted, type, number, instance, round, vote_round, last);
+    return memcmp(packet, wanted, sizeof wanted) == 0;
+}
+
+static int is_cell(const acceptor *a, int i, uint32_t round, uint32_t vote_round, uint64_t low)
+{
+    return a->rounds[i] == round && a->vote_rounds[i] == vote_round && a->values[2 * i] == 0 && a->values[2 * i + 1] == low;
+}
+
+static void acceptor_cases(void)
+{
+    uint8_t packet[MYRTHAKEL_PACKET_LENGTH + 1] = {0}, before[MYRTHAKEL_PACKET_LENGTH];
+    acceptor a, kept;
+    make_fresh(&a);
+    make(packet, 3, 0, 0, 0, MYRTHAKEL_NONE, 0x2a);
+    expect(acceptor_step(&a, packet, 36) == MYRTHAKEL_TO_LEARNERS, "fresh acceptor, propose round 0, v: vote");
+    expect(is_packet(packet, 4, 0, 0, 0, 0, 0x2a), "the vote carries v");
+    expect(is_cell(&a, 0, 0, 0, 0x2a), "cell 0, 0, v");
+
+    make(packet, 1, 1, 0, 1, MYRTHAKEL_NONE, 0);
+    expect(acceptor_step(&a, packet, 36) == MYRTHAKEL_TO_LEADER, "then prepare round 1: promise");
+    expect(is_packet(packet, 2, 0, 0, 1, 0, 0x2a), "the promise carries vote round 0 and v");
+    expect(is_cell(&a, 0, 1, 0, 0x2a), "the cell's round is 1");
+
+    make(packet, 3, 0, 0, 0, MYRTHAKEL_NONE, 0x2a);
+    memcpy(before, packet, sizeof before);
+    kept = a;
+    expect(acceptor_step(&a, packet, 36) == MYRTHAKEL_ROUND_BELOW, "then propose round 0: refusal 10");
+    expect(memcmp(packet, before, sizeof before) == 0 && memcmp(&a, &kept, sizeof a) == 0, "the refusal changes nothing");
+
+    make_fresh(&a);
+    make(packet, 1, 1, 0, 1, MYRTHAKEL_NONE, 0);
+    expect(acceptor_step(&a, packet, 36) == MYRTHAKEL_TO_LEADER, "fresh acceptor, prepare round 1: promise");
+    expect(is_packet(packet, 2, 0, 0, 1, MYRTHAKEL_NONE, 0), "the promise carries none and null");
+
+    make(packet, 3, 0, 7, 0, MYRTHAKEL_NONE, 0x2a);
+    expect(acceptor_step(&a, packet, 36) == MYRTHAKEL_TO_LEARNERS, "instance 7 is taken");
+    expect(is_cell(&a, 7, 0, 0, 0x2a) && is_cell(&a, 6, 0, MYRTHAKEL_NONE, 0), "in its own cell");
+    make(packet, 3, 0, 8, 0, MYRTHAKEL_NONE, 0x2a);
+    expect(acceptor_step(&a, packet, 36) == MYRTHAKEL_INSTANCE_BEYOND, "instance 8 is refused");
+    make(packet, 3, 0, 1, 0, MYRTHAKEL_NONE, 0x2a);
+    expect(acceptor_step(&a, packet, 35) == MYRTHAKEL_WRONG_LENGTH, "35 bytes are refused");
+    expect(acceptor_step(&a, packet, 37) == MYRTHAKEL_WRONG_LENGTH, "37 bytes are refused");
+    expect(myrthakel_acceptor_step(4, N, 0, packet, 36, a.rounds, N, a.vote_rounds, N, a.values, 2 * N) == MYRTHAKEL_NOT_ALLOWED, "M = 4 is refused");
+    expect(myrthakel_acceptor_step(M, N, 3, packet, 36, a.rounds, N, a.vote_rounds, N, a.values, 2 * N) == MYRTHAKEL_NOT_ALLOWED, "own number 3 is refused");
+    expect(myrthakel_acceptor_step(M, N, 0, packet, 36, a.rounds, N, a.vote_rounds, N, a.values, N) == MYRTHAKEL_NOT_ALLOWED, "a table of another size is refused");
+    a.vote_rounds[1] = 5;
+    expect(acceptor_step(&a, packet, 36) == MYRTHAKEL_IMPOSSIBLE_CELL, "a vote round above the round is refused");
+}
+
+static void primary_cases(void)
+{
+    uint8_t packet[MYRTHAKEL_PACKET_LENGTH];
+    uint32_t next = 0;
+    make(packet, 0, 9, 0, 0, MYRTHAKEL_NONE, 0x2a);
+    expect(myrthakel_primary_step(M, N, packet, 36, &next, 1) == MYRTHAKEL_TO_ACCEPTORS, "a request becomes a propose");
+    expect(is_packet(packet, 3, 0, 0, 0, MYRTHAKEL_NONE, 0x2a), "with instance 0, round 0, switch number 0 and its value");
+    make(packet, 0, 9, 0, 0, MYRTHAKEL_NONE, 0x2a);
+    expect(myrthakel_primary_step(M, N, packet, 36, &next, 1) == MYRTHAKEL_TO_ACCEPTORS, "a repeated request is taken");
+    expect(is_packet(packet, 3, 0, 1, 0, MYRTHAKEL_NONE, 0x2a) && next == 2, "and gets a second instance");
+    expect(myrthakel_primary_step(M, N, packet, 36, &next, 1) == MYRTHAKEL_WRONG_KIND, "a propose is refused");
+
+    next = 0;
+    make(packet, 0, 9, 0, 0, MYRTHAKEL_NONE, 0x2a);
+    expect(myrthakel_primary_step(M, 1, packet, 36, &next, 1) == MYRTHAKEL_TO_ACCEPTORS, "N = 1: the first request is taken");
+    make(packet, 0, 9, 0, 0, MYRTHAKEL_NONE, 0x2a);
+    expect(myrthakel_primary_step(M, 1, packet, 36, &next, 1) == MYRTHAKEL_NO_INSTANCE_LEFT && next == 1, "N = 1: the second is refused");
+    next = 2;
+    expect(myrthakel_primary_step(M, 1, packet, 36, &next, 1) == MYRTHAKEL_IMPOSSIBLE_CELL && next == 2, "next above N is impossible");
+    next = 0;
+    expect(myrthakel_primary_step(2, N, packet, 36, &next, 1) == MYRTHAKEL_NOT_ALLOWED, "M = 2 is refused");
+    expect(myrthakel_primary_step(M, 0, packet, 36, &next, 1) == MYRTHAKEL_NOT_ALLOWED, "N = 0 is refused");
+    expect(myrthakel_primary_step(M, 1025, packet, 36, &next, 1) == MYRTHAKEL_NOT_ALLOWED, "N = 1,025 is refused");
+    expect(myrthakel_primary_step(M, N, packet, 36, &next, 0) == MYRTHAKEL_NOT_ALLOWED, "a record of no number is refused");
+    expect(myrthakel_primary_step(M, 1024, packet, 36, &next, 1) == MYRTHAKEL_TO_ACCEPTORS && next == 1, "N = 1,024 is allowed");
+    next = 0;
+    make(packet, 0, 9, 0, 0, MYRTHAKEL_NONE, 0);
+    expect(myrthakel_primary_step(M, N, packet, 36, &next, 1) == MYRTHAKEL_BROKEN_FIELD && next == 0, "a null request is refused");
+}
+
+typedef struct {
+    uint32_t rounds[N], best_vote_rounds[N];
+    uint8_t phases[N], sets[N];
+    uint64_t best_values[2 * N], own_values[2 * N];
+} backup;
+
+static void make_idle(backup *b)
+{
+    memset(b, 0, sizeof *b);
+    for (int i = 0; i < N; i++)
+        b->best_vote_rounds[i] = MYRTHAKEL_NONE;
+}
+
+static uint32_t start(backup *b, uint32_t own, uint32_t instance, uint32_t floor, uint64_t low, uint8_t *buffer, size_t length)
+{
+    return myrthakel_backup_start(M, N, own, instance, floor, 0, low, buffer, length, b->rounds, N, b->phases, N, b->sets, N,
+                                  b->best_vote_rounds, N, b->best_values, 2 * N, b->own_values, 2 * N);
+}
+
+static uint32_t backup_step(backup *b, uint32_t own, uint8_t *packet)
+{
+    return myrthakel_backup_step(M, N, own, packet, 36, b->rounds, N, b->phases, N, b->sets, N,
+                                 b->best_vote_rounds, N, b->best_values, 2 * N, b->own_values, 2 * N);
+}
+
+static void backup_cases(void)
+{
+    uint8_t packet[MYRTHAKEL_PACKET_LENGTH] = {0}, zeros[MYRTHAKEL_PACKET_LENGTH] = {0}, before[MYRTHAKEL_PACKET_LENGTH];
+    backup b, kept;
+    make_idle(&b);
+    expect(start(&b, 1, 0, 0, 0x2a, packet, 36) == MYRTHAKEL_TO_ACCEPTORS, "backup 1, floor 0: a prepare");
+    expect(is_packet(packet, 1, 1, 0, 1, MYRTHAKEL_NONE, 0), "of round 1");
+    expect(start(&b, 1, 0, 0, 0x2a, packet, 36) == MYRTHAKEL_TO_ACCEPTORS && is_packet(packet, 1, 1, 0, 5, MYRTHAKEL_NONE, 0), "started again: round 5");
+
+    make_idle(&b);
+    expect(start(&b, 3, 0, UINT32_C(4294967290), 0x2a, packet, 36) == MYRTHAKEL_TO_ACCEPTORS && b.rounds[0] == UINT32_C(4294967291),
+           "backup 3, floor 4,294,967,290: round 4,294,967,291");
+    memset(packet, 0, sizeof packet);
+    kept = b;
+    expect(start(&b, 3, 0, UINT32_C(4294967291), 0x2a, packet, 36) == MYRTHAKEL_NO_ROUND_LEFT, "floor 4,294,967,291: refusal 16");
+    expect(memcmp(packet, zeros, sizeof zeros) == 0 && memcmp(&b, &kept, sizeof b) == 0, "the refusal changes nothing");
+    make_idle(&b);
+    expect(start(&b, 2, 0, UINT32_C(4294967293), 0x2a, packet, 36) == MYRTHAKEL_TO_ACCEPTORS && b.rounds[0] == UINT32_C(4294967294), "backup 2's last round");
+    expect(start(&b, 1, 1, UINT32_C(4294967295), 0x2a, packet, 36) == MYRTHAKEL_NO_ROUND_LEFT, "floor 4,294,967,295: refusal 16");
+    expect(start(&b, 1, 8, 0, 0x2a, packet, 36) == MYRTHAKEL_INSTANCE_BEYOND, "a start on instance 8 is refused");
+    expect(start(&b, 1, 8, 0, 0x2a, packet, 35) == MYRTHAKEL_WRONG_LENGTH, "a buffer of 35 bytes is refused first");
+    expect(start(&b, 0, 1, 0, 0x2a, packet, 36) == MYRTHAKEL_NOT_ALLOWED && start(&b, 4, 1, 0, 0x2a, packet, 36) == MYRTHAKEL_NOT_ALLOWED, "own numbers 0 and 4 are refused");
+    expect(start(&b, 3, 0, 0, 0x2a, packet, 36) == MYRTHAKEL_IMPOSSIBLE_CELL, "backup 2's cell lent to backup 3 is impossible");
+
+    make_idle(&b);
+    expect(start(&b, 1, 0, 0, 0x2b, packet, 36) == MYRTHAKEL_TO_ACCEPTORS, "a backup asks with own value w");
+    make(packet, 2, 0, 0, 1, MYRTHAKEL_NONE, 0);
+    memcpy(before, packet, sizeof before);
+    expect(backup_step(&b, 1, packet) == MYRTHAKEL_HOLD && memcmp(packet, before, sizeof before) == 0, "a promise with none is held");
+    expect(backup_step(&b, 1, packet) == MYRTHAKEL_ALREADY_COUNTED, "the same again is refusal 15");
+    make(packet, 2, 3, 0, 1, MYRTHAKEL_NONE, 0);
+    expect(backup_step(&b, 1, packet) == MYRTHAKEL_SENDER_BEYOND, "sender 3 is refusal 9");
+    make(packet, 2, 1, 0, 5, MYRTHAKEL_NONE, 0);
+    expect(backup_step(&b, 1, packet) == MYRTHAKEL_NOT_ASKED, "another round is refusal 11");
+    make(packet, 2, 1, 0, 1, 0, 0x2a);
+    expect(backup_step(&b, 1, packet) == MYRTHAKEL_TO_ACCEPTORS && is_packet(packet, 3, 1, 0, 1, MYRTHAKEL_NONE, 0x2a), "a promise with (0, v) makes it propose v");
+    make(packet, 2, 2, 0, 1, MYRTHAKEL_NONE, 0);
+    expect(backup_step(&b, 1, packet) == MYRTHAKEL_NOT_ASKED, "a third promise is refusal 11");
+    expect(backup_step(&b, 1, zeros) == MYRTHAKEL_WRONG_MARK, "zeros are refusal 2");
+
+    make_idle(&b);
+    start(&b, 1, 2, 0, 0x2b, packet, 36);
+    make(packet, 2, 0, 2, 1, 0, 0);
+    backup_step(&b, 1, packet);
+    make(packet, 2, 1, 2, 1, MYRTHAKEL_NONE, 0);
+    expect(backup_step(&b, 1, packet) == MYRTHAKEL_TO_ACCEPTORS && is_packet(packet, 3, 1, 2, 1, MYRTHAKEL_NONE, 0), "a vote for null is proposed, not the own value");
+    b.phases[3] = 3;
+    expect(start(&b, 1, 3, 0, 0x2b, packet, 36) == MYRTHAKEL_IMPOSSIBLE_CELL, "phase 3 is impossible");
+}
+
+int main(void)
+{
+    acceptor_cases();
+    primary_cases();
+    backup_cases();
+    printf("%d passed, %d failed\n", passed, failed);
+    return failed != 0;
+}
