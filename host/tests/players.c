@@ -184,6 +184,7 @@ static void backup_cases(void)
     make_idle(&b);
     expect(start(&b, 2, 0, UINT32_C(4294967293), 0x2a, packet, 36) == MYRTHAKEL_TO_ACCEPTORS && b.rounds[0] == UINT32_C(4294967294), "backup 2's last round");
     expect(start(&b, 1, 1, UINT32_C(4294967295), 0x2a, packet, 36) == MYRTHAKEL_NO_ROUND_LEFT, "floor 4,294,967,295: refusal 16");
+    expect(start(&b, 1, 3, 0, 0, packet, 36) == MYRTHAKEL_TO_ACCEPTORS && is_packet(packet, 1, 1, 3, 1, MYRTHAKEL_NONE, 0), "a start with null asks like any other");
     expect(start(&b, 1, 8, 0, 0x2a, packet, 36) == MYRTHAKEL_INSTANCE_BEYOND, "a start on instance 8 is refused");
     expect(start(&b, 1, 8, 0, 0x2a, packet, 35) == MYRTHAKEL_WRONG_LENGTH, "a buffer of 35 bytes is refused first");
     expect(start(&b, 0, 1, 0, 0x2a, packet, 36) == MYRTHAKEL_NOT_ALLOWED && start(&b, 4, 1, 0, 0x2a, packet, 36) == MYRTHAKEL_NOT_ALLOWED, "own numbers 0 and 4 are refused");
