@@ -38,7 +38,7 @@ use Rattle.wire.specs.declared.Place.{Place}
 use Rattle.backup.proofs.Next.{next-smallest}
 use Rattle.quorum.specs.declared.Settings.{Settings}
 use Rattle.quorum.specs.Quorum.{majority, hasMember, withMember, within, size, reachesMajority}
-use Rattle.quorum.proofs.Laws.{reaches-iff, with-member-size, with-member-within, empty-size, within-iff, empty-within}
+use Rattle.quorum.proofs.Laws.{reaches-iff, with-member-size, with-member-within, empty-size, empty-within, with-member-fits}
 use Rattle.backup.specs.declared.Cell.{Cell}
 use Rattle.backup.specs.Backup.{idle, asking, proposed, cell, freshCell, isFresh, phaseFits, isStarted, possible, counting, chosen, closed, whenMajority, promise, rule, Tables, freshTables, cellAt, withCell, backup, backupStep, Sized, Within, backupAllowed, started, start, nextRound, backupStart, Fitting}
 use Rattle.backup.proofs.Ways.{allowed-tables, index-within}
@@ -249,10 +249,6 @@ fresh-fitting N = record {
 null-fits : ValueFits null
 null-fits = record { high-fits = lit< tt; low-fits = lit< tt }
 
--- a member below 8 keeps a set within a byte
-member-fits : (set s : ℕ) → set < 2 ^ 8 → s ≤ 6 → withMember set s < 2 ^ 8
-member-fits set s small low = within-iff 8 (withMember set s) .0 (with-member-within 8 set s (within-iff 8 set .1 small) (omega arith))
-
 counting-fits : (c : Cell) (s : ℕ) (i : Instance) (r b : Round) (v : Value) → FitsCell c → Writable (Promise s i r b v) → s ≤ 6 → FitsCell (counting c s b v)
 unfolding counting
 counting-fits c s i r b v fits w low =
@@ -260,7 +256,7 @@ counting-fits c s i r b v fits w low =
     (λ _. record {
       round-fits = fits .round-fits;
       phase-fits = fits .phase-fits;
-      set-fits = member-fits (c .set) s (fits .set-fits) low;
+      set-fits = with-member-fits (c .set) s (fits .set-fits) (omega arith);
       best-vote-round-fits = fits .best-vote-round-fits;
       best-value-fits = fits .best-value-fits;
       own-value-fits = fits .own-value-fits;
@@ -268,7 +264,7 @@ counting-fits c s i r b v fits w low =
     (λ _. record {
       round-fits = fits .round-fits;
       phase-fits = fits .phase-fits;
-      set-fits = member-fits (c .set) s (fits .set-fits) low;
+      set-fits = with-member-fits (c .set) s (fits .set-fits) (omega arith);
       best-vote-round-fits = promise-vote-round-fits s i r b v w;
       best-value-fits = promise-value-fits s i r b v w;
       own-value-fits = fits .own-value-fits;

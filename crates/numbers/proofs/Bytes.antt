@@ -61,7 +61,7 @@ numberAt-add p at v w h =
     ∙ rw (length-bytesAt p (at + v) w, first, last)
 
 -- ---- writing
-length-toBytes : (w n : ℕ) → length (toBytes w n) ≡ w
+pub length-toBytes : (w n : ℕ) → length (toBytes w n) ≡ w
 length-toBytes zero n = refl
 length-toBytes (suc w) n = ap suc (length-toBytes w n)
 

@@ -1,3 +1,4 @@
 pub mod Bytes
 mod Swapped
 mod Ways
+pub mod Fronts

@@ -1,2 +1,3 @@
 pub mod BigEndian
 pub mod Swapped
+pub mod Fronts

@@ -29,6 +29,10 @@ unfolding majority
 majority-iff acceptors count = (λ half. omega arith, λ reached. omega arith)
 
 -- A set is within M where it is below 2 ^ M.
+pub majority-some : (acceptors : ℕ) → 1 ≤ majority acceptors
+unfolding majority
+majority-some acceptors = omega arith
+
 pub within-iff : (acceptors set : ℕ) → (within acceptors set ≡ true) ↔ (set < 2 ^ acceptors)
 unfolding within
 within-iff acceptors set = (ltb-true set (2 ^ acceptors), lt-ltb set (2 ^ acceptors))
@@ -192,6 +196,10 @@ pub with-member-within : (acceptors set member : ℕ) → within acceptors set �
 with-member-within acceptors set member inside known =
     with-member-elim (λ after. within acceptors after ≡ true) set member inside
     (λ absent. within-iff acceptors (set + 2 ^ member) .1 (added member set absent .below acceptors known (within-iff acceptors set .0 inside)))
+
+-- a member below 8 keeps a set within a byte
+pub with-member-fits : (set member : ℕ) → set < 2 ^ 8 → member < 8 → withMember set member < 2 ^ 8
+with-member-fits set member small low = within-iff 8 (withMember set member) .0 (with-member-within 8 set member (within-iff 8 set .1 small) low)
 
 -- ---- allowed settings
 

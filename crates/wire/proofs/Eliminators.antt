@@ -82,3 +82,14 @@ no-promise here other (Promise s i r b v) tag =
     absurd (⊎-elim (eqb-false 2 0 refl) (⊎-elim (eqb-false 2 1 refl) (⊎-elim (eqb-false 2 3 refl) (eqb-false 2 4 refl))) tag)
 no-promise here other (Propose i r v) tag = refl
 no-promise here other (Vote s i r v) tag = refl
+
+-- and so of `let Message::Vote { .. } = message`
+pub no-vote : {A : Type 0} (here : ℕ → Instance → Round → Value → A) (other : A) (m : Message) → OneOf (0 ∷ 1 ∷ 2 ∷ 3 ∷ []) (tagOf the-type m)
+    → other ≡ whenVote here other m
+unfolding whenVote
+no-vote here other (Request s v) tag = refl
+no-vote here other (Prepare i r) tag = refl
+no-vote here other (Promise s i r b v) tag = refl
+no-vote here other (Propose i r v) tag = refl
+no-vote here other (Vote s i r v) tag =
+    absurd (⊎-elim (eqb-false 4 0 refl) (⊎-elim (eqb-false 4 1 refl) (⊎-elim (eqb-false 4 2 refl) (eqb-false 4 3 refl))) tag)

@@ -57,6 +57,14 @@ pub promise-value-fits : (s : ℕ) (i : Instance) (r b : Round) (v : Value) → 
 unfolding fieldsOf
 promise-value-fits s i r b v w = record { high-fits = w .range .high-fits; low-fits = w .range .low-fits }
 
+pub vote-fits : (s : ℕ) (i : Instance) (r : Round) (v : Value) → Writable (Vote s i r v) → PlaceFits i r
+unfolding fieldsOf
+vote-fits s i r v w = record { instance-fits = w .range .instance-fits; round-fits = w .range .round-fits }
+
+pub vote-value-fits : (s : ℕ) (i : Instance) (r : Round) (v : Value) → Writable (Vote s i r v) → ValueFits v
+unfolding fieldsOf
+vote-value-fits s i r v w = record { high-fits = w .range .high-fits; low-fits = w .range .low-fits }
+
 -- ---- what makes a message one that can be written
 
 -- an owner's number is small

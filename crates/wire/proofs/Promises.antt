@@ -10,7 +10,7 @@ use Rattle.wire.specs.declared.Place.{Place}
 use Rattle.wire.specs.declared.Place.the-variants.{At}
 use Rattle.wire.specs.declared.Reading.the-variants.{Read, Refused}
 use Rattle.wire.specs.declared.Verdict.{Verdict}
-use Rattle.wire.specs.declared.Verdict.the-variants.{ToAcceptors, ToLeader, ToLearners, Hold, Decided, Done}
+use Rattle.wire.specs.declared.Verdict.the-variants.{ToAcceptors, ToLeader, ToLearners, Hold, Decided, Done, NotYet, NoHole}
 use Rattle.wire.specs.Table.{keepsTable}
 use Rattle.wire.specs.Message.{fieldsOf}
 use Rattle.wire.specs.Packet.{Kept, readPacket, packetOf}
@@ -50,6 +50,8 @@ verdict-is ToLearners = refl
 verdict-is Hold = refl
 verdict-is Decided = refl
 verdict-is Done = refl
+verdict-is NotYet = refl
+verdict-is NoHole = refl
 
 -- ---- what comes of a ruling
 

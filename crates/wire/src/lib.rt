@@ -72,7 +72,7 @@ pub enum Place {
     Nowhere(u32),
 }
 
-// What a call says to do. `Done` is for the calls that send and count nothing.
+// What a call says to do. `Done` is for the calls that send and count nothing, and the last two for those that have nothing to tell.
 pub enum Verdict {
     ToAcceptors,
     ToLeader,
@@ -80,6 +80,8 @@ pub enum Verdict {
     Hold,
     Decided,
     Done,
+    NotYet,
+    NoHole,
 }
 
 // Which columns of the packet table the fields keep.
@@ -112,6 +114,8 @@ pub fn verdict_number(verdict: Verdict) -> u32
         Verdict::Hold => 104,
         Verdict::Decided => 105,
         Verdict::Done => 106,
+        Verdict::NotYet => 107,
+        Verdict::NoHole => 108,
     }
 }
 
