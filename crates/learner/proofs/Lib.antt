@@ -1,0 +1,5 @@
+mod Columns
+pub mod Cells
+pub mod Ways
+pub mod Promises
+pub mod Answers
