@@ -1,0 +1,149 @@
+-- The walk that delivers, a cell at a time: what is written so far are the values of the cells before, and the list goes on with those that are left.
+-- Assumes nothing.
+use Prim.Native.Nat.{ℕ, zero, suc, _+_, _*_, _≤_, _<_}
+use mathlib.Core.Path.{_≡_, refl, sym, ap, _∙_}
+use mathlib.Core.Bool.{Bool, true, false, not}
+use mathlib.Core.List.{List, [], _∷_, _++_, append-assoc, append-nil}
+use native.Mathlib.Omega.{arith}
+use native.Mathlib.Numerals.{add-one}
+use lib.ListN.{length, length-append}
+use lib.Dec.{eqb}
+use borrow.Author.Tests.{not-true, not-false, ne-eqb, eq-eqb}
+use Rattle.numbers.specs.BigEndian.{toBytes, withNumberAt}
+use Rattle.numbers.specs.Fronts.{withFront}
+use Rattle.numbers.proofs.Bytes.{length-toBytes}
+use Rattle.numbers.proofs.Fronts.{number-next}
+use Rattle.wire.specs.declared.Value.{Value}
+use Rattle.wire.specs.declared.Verdict.the-variants.{Done}
+use Rattle.wire.specs.Ladder.{if_then_else_, need_or_then_}
+use Rattle.wire.specs.Verdict.{verdictNumber}
+use Rattle.quorum.specs.declared.Settings.{Settings}
+use Rattle.tally.specs.declared.Tally.{Tally}
+use Rattle.tally.specs.Tally.{isDecided}
+use Rattle.learner.specs.Tables.{Tables, cellAt, cells, cellsFrom, learnerAllowed, allPossible}
+use Rattle.learner.proofs.Cells.{cellsLeft, cells-all, cells-next, cells-end}
+use Rattle.delivery.specs.Delivery.{delivered, valueBytes, delivery, delivering, deliver}
+
+-- the values of the first cells
+unfoldable pub valuesBefore : Tables → (count : ℕ) → List Value
+valuesBefore t zero = []
+valuesBefore t (suc count) = valuesBefore t count ++ (cellAt t count .value ∷ [])
+
+pub values-none : (t : Tables) → [] ≡ valuesBefore t 0
+unfolding valuesBefore
+values-none t = refl
+
+values-next : (t : Tables) (count : ℕ) → valuesBefore t (count + 1) ≡ valuesBefore t count ++ (cellAt t count .value ∷ [])
+unfolding valuesBefore
+values-next t count = ap (valuesBefore t) (add-one count)
+
+length-values : (t : Tables) (count : ℕ) → length (valuesBefore t count) ≡ count
+unfolding valuesBefore
+length-values t zero = refl
+length-values t (suc count) = omega (arith, length-append (valuesBefore t count) (cellAt t count .value ∷ []), length-values t count)
+
+-- ---- values as bytes
+
+pub length-value-bytes : (values : List Value) → length (valueBytes values) ≡ 16 * length values
+unfolding valueBytes
+length-value-bytes [] = refl
+length-value-bytes (v ∷ vs) =
+    let high = toBytes 8 (v .high) in
+    let low = toBytes 8 (v .low) in
+    omega (arith, length-append (high ++ low) (valueBytes vs), length-append high low, length-toBytes 8 (v .high), length-toBytes 8 (v .low), length-value-bytes vs)
+
+value-bytes-next : (values : List Value) (v : Value) → valueBytes (values ++ (v ∷ [])) ≡ (valueBytes values ++ toBytes 8 (v .high)) ++ toBytes 8 (v .low)
+unfolding valueBytes
+value-bytes-next [] v = append-nil (toBytes 8 (v .high) ++ toBytes 8 (v .low))
+value-bytes-next (w ∷ ws) v =
+    let high = toBytes 8 (w .high) in
+    let low = toBytes 8 (w .low) in
+    ap (λ rest. (high ++ low) ++ rest) (value-bytes-next ws v) ∙ sym (append-assoc (high ++ low) (valueBytes ws ++ toBytes 8 (v .high)) (toBytes 8 (v .low)))
+    ∙ ap (λ front. front ++ toBytes 8 (v .low)) (sym (append-assoc (high ++ low) (valueBytes ws) (toBytes 8 (v .high))))
+
+-- ---- one turn
+
+-- what stands in the buffer after so many values
+abbrev pub written : (buffer : List ℕ) → Tables → (count : ℕ) → List ℕ
+written buffer t count = withFront buffer (valueBytes (valuesBefore t count))
+
+module _ (M : ℕ) (t : Tables) (count instances : ℕ) where
+  -- the list: the values before, and what is delivered of the cells that are left
+  abbrev pub split : List Value
+  split = valuesBefore t count ++ delivered M (cellsLeft t count instances)
+
+  pub split-all : count ≡ 0 → delivered M (cellsFrom t 0 instances) ≡ split
+  split-all none = rw none (ap (delivered M) (cells-all t instances) ∙ ap (λ values. values ++ delivered M (cellsLeft t 0 instances)) (values-none t))
+
+  pub split-past : instances ≤ count → split ≡ valuesBefore t count
+  unfolding delivered
+  split-past past = ap (λ cs. valuesBefore t count ++ delivered M cs) (cells-end t count instances past) ∙ append-nil (valuesBefore t count)
+
+module _ (M : ℕ) (t : Tables) (count instances : ℕ) (inside : count < instances) (c : Tally) (c-so : c ≡ cellAt t count) (decided : Bool) (decided-so : decided ≡ isDecided M c) where
+  pub split-stops : not decided ≡ true → split M t count instances ≡ valuesBefore t count
+  unfolding delivered if_then_else_
+  split-stops undecided =
+      let none : delivered M (cellsLeft t count instances) ≡ [] = rw (cells-next t count instances inside, ← c-so, ← decided-so, not-true decided undecided) in
+      ap (λ values. valuesBefore t count ++ values) none ∙ append-nil (valuesBefore t count)
+
+  pub split-next : not decided ≡ false → split M t count instances ≡ split M t (count + 1) instances
+  unfolding delivered if_then_else_
+  split-next over =
+      let left = delivered M (cellsLeft t (count + 1) instances) in
+      let more : delivered M (cellsLeft t count instances) ≡ cellAt t count .value ∷ left =
+      rw (cells-next t count instances inside, ← ap (isDecided M) c-so, ← decided-so, not-false decided over) in
+      ap (λ values. valuesBefore t count ++ values) more ∙ sym (append-assoc (valuesBefore t count) (cellAt t count .value ∷ []) left)
+      ∙ ap (λ values. values ++ left) (sym (values-next t count))
+
+module _ (buffer : List ℕ) (t : Tables) (count : ℕ) where
+  pub written-none : count ≡ 0 → buffer ≡ written buffer t count
+  unfolding valueBytes
+  written-none none = rw none (ap (λ values. withFront buffer (valueBytes values)) (values-none t))
+
+  -- the bytes of the values before
+  abbrev front : List ℕ
+  front = valueBytes (valuesBefore t count)
+
+  long-front : length front ≡ 16 * count
+  long-front = omega (arith, length-value-bytes (valuesBefore t count), length-values t count)
+
+  pub written-next : (now half next : List ℕ) (place : ℕ) (c : Tally) → c ≡ cellAt t count → now ≡ written buffer t count → place ≡ 16 * count → 16 * count + 16 ≤ length buffer
+      → half ≡ withNumberAt now place 8 (c .value .high) → next ≡ withNumberAt half (place + 8) 8 (c .value .low) → next ≡ written buffer t (count + 1)
+  written-next now half next place c c-so now-so place-so fits half-so next-so =
+      let v = cellAt t count .value in
+      let long = long-front in
+      let grown = length-append front (toBytes 8 (v .high)) in
+      let wide = length-toBytes 8 (v .high) in
+      let first : half ≡ withFront buffer (front ++ toBytes 8 (v .high)) =
+      half-so ∙ rw (now-so, c-so) (number-next buffer front place 8 (v .high) (omega (arith, long)) (omega (arith, long))) in
+      next-so ∙ rw (first, c-so) (number-next buffer (front ++ toBytes 8 (v .high)) (place + 8) 8 (v .low) (omega (arith, long, grown, wide)) (omega (arith, long, grown, wide)))
+      ∙ ap (withFront buffer) (sym (value-bytes-next (valuesBefore t count) v)) ∙ ap (λ values. withFront buffer (valueBytes values)) (sym (values-next t count))
+
+-- where the walk ends, the list is delivered
+pub walk-done : (M : ℕ) (t : Tables) (count instances : ℕ) (buffer now : List ℕ) → now ≡ written buffer t count → delivered M (cellsFrom t 0 instances) ≡ valuesBefore t count
+    → delivery (verdictNumber Done) count now ≡ delivering buffer (delivered M (cellsFrom t 0 instances))
+walk-done M t count instances buffer now now-so all-so = rw (all-so, now-so, length-values t count)
+
+-- ---- the ways out of the call
+
+module _ (s : Settings) (t : Tables) (count : ℕ) (buffer : List ℕ) (fine : Bool) (fine-so : fine ≡ learnerAllowed s t) where
+  pub deliver-7 : not fine ≡ true → delivery 7 count buffer ≡ deliver s t buffer count
+  unfolding deliver need_or_then_
+  deliver-7 no-way = rw (← fine-so, not-true fine no-way)
+
+  module _ (passed : not fine ≡ false) where
+    pub deliver-1 : (length buffer ≡ 16 * s .instances → ⊥) → delivery 1 count buffer ≡ deliver s t buffer count
+    unfolding deliver need_or_then_
+    deliver-1 other = rw (← fine-so, not-false fine passed, ne-eqb (length buffer) (16 * s .instances) other)
+
+    module _ (long : length buffer ≡ 16 * s .instances) (sound : Bool) (sound-so : sound ≡ allPossible (s .acceptors) (cells s t)) where
+      pub deliver-17 : not sound ≡ true → delivery 17 count buffer ≡ deliver s t buffer count
+      unfolding deliver need_or_then_
+      deliver-17 impossible = rw (← fine-so, not-false fine passed, eq-eqb (length buffer) (16 * s .instances) long, ← sound-so, not-true sound impossible)
+
+      pub deliver-done : not sound ≡ false → (number told : ℕ) (left : List ℕ) → number ≡ verdictNumber Done
+          → delivery (verdictNumber Done) told left ≡ delivering buffer (delivered (s .acceptors) (cells s t)) → delivery number told left ≡ deliver s t buffer count
+      unfolding deliver need_or_then_
+      deliver-done possible number told left number-so done-so =
+          ap (λ n. delivery n told left) number-so ∙ done-so
+          ∙ rw (← fine-so, not-false fine passed, eq-eqb (length buffer) (16 * s .instances) long, ← sound-so, not-false sound possible)

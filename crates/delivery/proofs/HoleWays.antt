@@ -1,0 +1,87 @@
+-- The walks for the first hole, a cell at a time: each goes on from a cell as the definition does, and ends where the cells do.
+-- Assumes nothing.
+use Prim.Native.Nat.{ℕ, _+_, _≤_, _<_}
+use mathlib.Core.Path.{_≡_, sym, ap, _∙_}
+use mathlib.Core.Bool.{Bool, true, false, not}
+use borrow.Author.Tests.{not-true, not-false}
+use Rattle.wire.specs.declared.Verdict.the-variants.{Done, NoHole}
+use Rattle.wire.specs.Ladder.{if_then_else_, need_or_then_}
+use Rattle.wire.specs.Rounds.{theInstance}
+use Rattle.wire.proofs.Ladder.{if-true, if-false}
+use Rattle.wire.specs.Verdict.{verdictNumber}
+use Rattle.quorum.specs.declared.Settings.{Settings}
+use Rattle.tally.specs.declared.Tally.{Tally}
+use Rattle.tally.specs.Tally.{isDecided}
+use Rattle.learner.specs.Tables.{Tables, cellAt, cellsFrom, cells, learnerAllowed, allPossible}
+use Rattle.learner.proofs.Cells.{cellsLeft, cells-all, cells-next, cells-end}
+use Rattle.wire.specs.declared.Instance.{Instance}
+use Rattle.delivery.specs.declared.Hole.{Hole}
+use Rattle.delivery.specs.declared.Hole.the-variants as holes
+use Rattle.delivery.specs.Holes.{decidedEndFrom, decidedEnd, isHole, firstHoleFrom, firstHole, hole, found, finding}
+
+module _ (M end : ℕ) (t : Tables) (number count : ℕ) where
+  module _ (inside : number < count) (c : Tally) (c-so : c ≡ cellAt t number) where
+    module _ (decided : Bool) (decided-so : decided ≡ isDecided M c) where
+      abbrev ends-at : (next : ℕ) → ℕ
+      ends-at next = decidedEndFrom M (number + 1) next (cellsLeft t (number + 1) count)
+
+      pub end-rises : (next : ℕ) → decided ≡ true → next ≡ number + 1 → decidedEndFrom M number end (cellsLeft t number count) ≡ ends-at next
+      unfolding decidedEndFrom
+      end-rises next over next-so =
+          rw (cells-next t number count inside) (ap ends-at (if-true (number + 1) end (ap (isDecided M) (sym c-so) ∙ sym decided-so ∙ over) ∙ sym next-so))
+
+      pub end-stays : (next : ℕ) → decided ≡ false → next ≡ end → decidedEndFrom M number end (cellsLeft t number count) ≡ ends-at next
+      unfolding decidedEndFrom
+      end-stays next undecided next-so =
+          rw (cells-next t number count inside) (ap ends-at (if-false (number + 1) end (ap (isDecided M) (sym c-so) ∙ sym decided-so ∙ undecided) ∙ sym next-so))
+
+    module _ (is : Bool) (is-so : is ≡ isHole M end number c) where
+      pub hole-here : is ≡ true → holes.At (theInstance number) ≡ firstHoleFrom M end number (cellsLeft t number count)
+      unfolding firstHoleFrom if_then_else_
+      hole-here yes-so = rw (cells-next t number count inside, ← c-so, ← is-so, yes-so)
+
+      pub hole-later : is ≡ false → firstHoleFrom M end number (cellsLeft t number count) ≡ firstHoleFrom M end (number + 1) (cellsLeft t (number + 1) count)
+      unfolding firstHoleFrom if_then_else_
+      hole-later no-so = rw (cells-next t number count inside, ← c-so, ← is-so, no-so)
+
+  module _ (past : count ≤ number) where
+    pub end-reached : end ≡ decidedEndFrom M number end (cellsLeft t number count)
+    unfolding decidedEndFrom
+    end-reached = rw (cells-end t number count past)
+
+    pub no-hole-left : holes.Nowhere ≡ firstHoleFrom M end number (cellsLeft t number count)
+    unfolding firstHoleFrom
+    no-hole-left = rw (cells-end t number count past)
+
+-- the walk begins with all cells, and with their end
+pub walk-begins : (M : ℕ) (t : Tables) (count end : ℕ) → end ≡ decidedEnd M (cellsFrom t 0 count) → firstHole M (cellsFrom t 0 count) ≡ firstHoleFrom M end 0 (cellsLeft t 0 count)
+walk-begins M t count end end-so = ap (λ k. firstHoleFrom M k 0 (cellsFrom t 0 count)) (sym end-so) ∙ ap (firstHoleFrom M end 0) (cells-all t count)
+
+-- ---- the ways out of the call
+
+module _ (s : Settings) (t : Tables) (fine : Bool) (fine-so : fine ≡ learnerAllowed s t) where
+  pub hole-7 : not fine ≡ true → holes.Refused 7 ≡ hole s t
+  unfolding hole need_or_then_
+  hole-7 no-way = rw (← fine-so, not-true fine no-way)
+
+  module _ (passed : not fine ≡ false) (sound : Bool) (sound-so : sound ≡ allPossible (s .acceptors) (cells s t)) where
+    pub hole-17 : not sound ≡ true → holes.Refused 17 ≡ hole s t
+    unfolding hole need_or_then_
+    hole-17 impossible = rw (← fine-so, not-false fine passed, ← sound-so, not-true sound impossible)
+
+    pub hole-walked : not sound ≡ false → (r : Hole) → r ≡ firstHole (s .acceptors) (cells s t) → r ≡ hole s t
+    unfolding hole need_or_then_
+    hole-walked possible r r-so = rw (← fine-so, not-false fine passed, ← sound-so, not-false sound possible, r-so)
+
+module _ (before : ℕ) (h : Hole) (number : ℕ) where
+  pub finding-at : (i : Instance) → h ≡ holes.At i → number ≡ verdictNumber Done → found number (i .0) ≡ finding before h
+  unfolding finding
+  finding-at i h-so number-so = rw (h-so, number-so)
+
+  pub finding-nowhere : h ≡ holes.Nowhere → number ≡ verdictNumber NoHole → found number before ≡ finding before h
+  unfolding finding
+  finding-nowhere h-so number-so = rw (h-so, number-so)
+
+  pub finding-refused : h ≡ holes.Refused number → found number before ≡ finding before h
+  unfolding finding
+  finding-refused h-so = rw h-so

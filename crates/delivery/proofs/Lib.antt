@@ -1,0 +1,4 @@
+mod DeliveryWays
+mod HoleWays
+pub mod Delivered
+pub mod LeastHole
