@@ -5,22 +5,27 @@ use lib.Count.{ones}
 use Rattle.numbers.specs.BigEndian.{numberAt}
 use Rattle.wire.specs.Ladder.{if_then_else_, need_or_then_}
 use Rattle.wire.specs.Rounds.{ownerOf, ownedOr0, ownedNot0, rank, atMost}
-use Rattle.wire.specs.Table.{prepareRow, promiseRow, proposeRow, tableRow, keepsTable, isVoteBy}
-use Rattle.wire.specs.Message.{messageOf, fieldsOf, whenPrepare, whenPromise, whenPropose}
+use Rattle.wire.specs.Table.{prepareRow, promiseRow, proposeRow, voteRow, tableRow, keepsTable, isVoteBy}
+use Rattle.wire.specs.Message.{messageOf, fieldsOf, whenPrepare, whenPromise, whenPropose, whenVote}
 use Rattle.wire.specs.Packet.{fieldsIn, readPacket, packetWith, packetOf}
 use Rattle.wire.specs.Step.{placed, afterReading, afterPlacing, ruled, act, step}
 use Rattle.quorum.specs.Settings.{acceptorsAllowed, instancesAllowed, allowed}
 use Rattle.quorum.specs.Quorum.{majority, bit, hasMember, withMember, within, reaches}
 use Rattle.acceptor.specs.Acceptor as acceptors
 use Rattle.backup.specs.Backup as backups
+use Rattle.tally.specs.Tally as tallies
+use Rattle.tally.specs.Counting.{whenDecided, added, vote}
+use Rattle.learner.specs.Tables.{sizesAllowed}
+use Rattle.learner.specs.Learner as learners
 use Rattle.cases.specs.Cases.{cases, All}
 
 starred : All cases
-unfolding ones numberAt if_then_else_ need_or_then_ ownerOf ownedOr0 ownedNot0 rank atMost prepareRow promiseRow proposeRow tableRow keepsTable isVoteBy messageOf
-    fieldsOf whenPrepare whenPromise whenPropose fieldsIn readPacket packetWith packetOf placed afterReading afterPlacing ruled act step acceptorsAllowed instancesAllowed
+unfolding ones numberAt if_then_else_ need_or_then_ ownerOf ownedOr0 ownedNot0 rank atMost prepareRow promiseRow proposeRow voteRow tableRow keepsTable isVoteBy messageOf
+    fieldsOf whenPrepare whenPromise whenPropose whenVote fieldsIn readPacket packetWith packetOf placed afterReading afterPlacing ruled act step acceptorsAllowed instancesAllowed
     allowed majority bit hasMember withMember within reaches acceptors.possible acceptors.obeying acceptors.rule acceptors.acceptorAllowed acceptors.place
     acceptors.acceptor acceptors.acceptorStep backups.isFresh backups.phaseFits backups.isStarted backups.possible backups.nextRound backups.start backups.counting
     backups.chosen backups.whenMajority backups.promise backups.rule backups.ownAllowed backups.sizesAllowed backups.backupAllowed backups.backup backups.backupStep
-    backups.backupStart
+    backups.backupStart tallies.isDecided tallies.isFresh tallies.isHeard tallies.possible whenDecided added vote sizesAllowed learners.rule learners.learner
+    learners.learnerStep learners.told learners.answerAt learners.answer
 starred =
-    (refl, (refl, (refl, (refl, (refl, (refl, (refl, (refl, (refl, (refl, (refl, (refl, (refl, (refl, (refl, (refl, (refl, tt)))))))))))))))))
+    (refl, (refl, (refl, (refl, (refl, (refl, (refl, (refl, (refl, (refl, (refl, (refl, (refl, (refl, (refl, (refl, (refl, (refl, (refl, (refl, (refl, (refl, (refl, (refl, (refl, tt)))))))))))))))))))))))))

@@ -11,7 +11,7 @@ use Rattle.wire.specs.declared.Message.{Message}
 use Rattle.wire.specs.declared.Message.the-variants.{Prepare, Promise, Propose, Vote}
 use Rattle.wire.specs.declared.Value.{Value}
 use Rattle.wire.specs.declared.Verdict.{Verdict}
-use Rattle.wire.specs.declared.Verdict.the-variants.{ToAcceptors, ToLeader, ToLearners, Hold}
+use Rattle.wire.specs.declared.Verdict.the-variants.{ToAcceptors, ToLeader, ToLearners, Hold, Decided}
 use Rattle.wire.specs.Packet.{packetOf}
 use Rattle.wire.specs.Rounds.{theInstance, theRound, none}
 use Rattle.wire.specs.Step.{Outcome, outcome, unchanged}
@@ -20,6 +20,11 @@ use Rattle.wire.specs.Verdict.{verdictNumber}
 use Rattle.quorum.specs.Settings.{settings}
 use Rattle.acceptor.specs.Acceptor as acceptors
 use Rattle.backup.specs.Backup as backups
+use Rattle.tally.specs.Tally.{tally}
+use Rattle.learner.specs.declared.Answer.{Answer}
+use Rattle.learner.specs.declared.Answer.the-variants as answers
+use Rattle.learner.specs.Tables as tallies
+use Rattle.learner.specs.Learner as learners
 
 abbrev v : Value
 v = theValue 0 0x2a
@@ -38,12 +43,16 @@ pub data Row : Type 0 where
   acceptor : acceptors.Tables → Message → Outcome acceptors.Tables → Row
   start : (own : ℕ) → backups.Tables → (floor : ℕ) → Value → Outcome backups.Tables → Row
   backup : backups.Tables → Message → Outcome backups.Tables → Row
+  learner : (M : ℕ) → tallies.Tables → Message → Outcome tallies.Tables → Row
+  answer : (M : ℕ) → tallies.Tables → Answer → Row
 
 -- The outcome is the one that the definitions give.
 abbrev pub Holds : Row → Type 0
 Holds (acceptor t m o) = acceptors.acceptorStep (settings 3 8) 0 (packetOf m) t ≡ o
 Holds (start own t floor value o) = backups.backupStart (settings 3 8) own first floor value zeros t ≡ o
 Holds (backup t m o) = backups.backupStep (settings 3 8) 1 (packetOf m) t ≡ o
+Holds (learner M t m o) = learners.learnerStep (settings M 8) (packetOf m) t ≡ o
+Holds (answer M t a) = learners.answer (settings M 8) first t ≡ a
 
 abbrev pub All : List Row → Type 0
 All [] = Unit {0}
@@ -89,6 +98,17 @@ starts own t floor round = start own t floor v (sent ToAcceptors (Prepare first 
 abbrev refuses : (own : ℕ) → backups.Tables → (floor : ℕ) → Row
 refuses own t floor = start own t floor v (unchanged zeros t 16)
 
+-- The learner's tables, fresh but for the cell of instance 0.
+abbrev unheard : tallies.Tables
+unheard = tallies.freshTables 8
+
+abbrev heard : (round set : ℕ) → tallies.Tables
+heard round set = tallies.withCell unheard 0 (tally (theRound round) set v)
+
+-- A vote for v, in a round, from an acceptor.
+abbrev vote : (round sender : ℕ) → Message
+vote round sender = Vote sender first (theRound round) v
+
 abbrev pub cases : List Row
 cases =
     -- Fresh acceptor, propose round 0, v: vote; cell 0, 0, v.
@@ -117,4 +137,14 @@ cases =
     ∷ start 1 idle 0 w (sent ToAcceptors (Prepare first (theRound 1)) (asking 1 w 0))
     ∷ backup (asking 1 w 0) (Promise 0 first (theRound 1) none null) (held (Promise 0 first (theRound 1) none null) (asking 1 w 1))
     ∷ backup (asking 1 w 1) (Promise 1 first (theRound 1) (theRound 0) v) (sent ToAcceptors (Propose first (theRound 1) v) proposed)
+    -- Learner: vote round 1 from 0, round 2 from 2, round 1 from 1: the third is refusal 10, not yet decided.
+    ∷ learner 3 unheard (vote 1 0) (held (vote 1 0) (heard 1 1))
+    ∷ learner 3 (heard 1 1) (vote 2 2) (held (vote 2 2) (heard 2 4))
+    ∷ learner 3 (heard 2 4) (vote 1 1) (refused (vote 1 1) (heard 2 4) 10)
+    ∷ answer 3 (heard 2 4) answers.NotYet
+    -- M = 5: two equal votes hold, the third decides.
+    ∷ learner 5 unheard (vote 0 0) (held (vote 0 0) (heard 0 1))
+    ∷ learner 5 (heard 0 1) (vote 0 1) (held (vote 0 1) (heard 0 3))
+    ∷ learner 5 (heard 0 3) (vote 0 2) (outcome (verdictNumber Decided) (packetOf (vote 0 2)) (heard 0 7))
+    ∷ answer 5 (heard 0 7) (answers.Decided v)
     ∷ []
