@@ -1,4 +1,2 @@
-mod Rules
 pub mod Ways
-pub mod Next
 pub mod Promises

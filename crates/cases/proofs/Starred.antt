@@ -13,6 +13,7 @@ use Rattle.quorum.specs.Settings.{acceptorsAllowed, instancesAllowed, allowed}
 use Rattle.quorum.specs.Quorum.{majority, bit, hasMember, withMember, within, reaches}
 use Rattle.acceptor.specs.Acceptor as acceptors
 use Rattle.backup.specs.Backup as backups
+use Rattle.takeover.specs.Takeover as takeovers
 use Rattle.tally.specs.Tally as tallies
 use Rattle.tally.specs.Counting.{whenDecided, added, vote}
 use Rattle.learner.specs.Tables.{sizesAllowed}
@@ -23,8 +24,8 @@ starred : All cases
 unfolding ones numberAt if_then_else_ need_or_then_ ownerOf ownedOr0 ownedNot0 rank atMost prepareRow promiseRow proposeRow voteRow tableRow keepsTable isVoteBy messageOf
     fieldsOf whenPrepare whenPromise whenPropose whenVote fieldsIn readPacket packetWith packetOf placed afterReading afterPlacing ruled act step acceptorsAllowed instancesAllowed
     allowed majority bit hasMember withMember within reaches acceptors.possible acceptors.obeying acceptors.rule acceptors.acceptorAllowed acceptors.place
-    acceptors.acceptor acceptors.acceptorStep backups.isFresh backups.phaseFits backups.isStarted backups.possible backups.nextRound backups.start backups.counting
-    backups.chosen backups.whenMajority backups.promise backups.rule backups.ownAllowed backups.sizesAllowed backups.backupAllowed backups.backup backups.backupStep
+    acceptors.acceptor acceptors.acceptorStep takeovers.isFresh takeovers.phaseFits takeovers.isStarted takeovers.possible takeovers.nextRound takeovers.start takeovers.counting
+    takeovers.chosen takeovers.whenMajority takeovers.promise takeovers.rule backups.ownAllowed backups.sizesAllowed backups.backupAllowed backups.backup backups.backupStep
     backups.backupStart tallies.isDecided tallies.isFresh tallies.isHeard tallies.possible whenDecided added vote sizesAllowed learners.rule learners.learner
     learners.learnerStep learners.told learners.answerAt learners.answer
 starred =

@@ -20,6 +20,7 @@ use Rattle.wire.specs.Verdict.{verdictNumber}
 use Rattle.quorum.specs.Settings.{settings}
 use Rattle.acceptor.specs.Acceptor as acceptors
 use Rattle.backup.specs.Backup as backups
+use Rattle.takeover.specs.Takeover as takeovers
 use Rattle.tally.specs.Tally.{tally}
 use Rattle.learner.specs.declared.Answer.{Answer}
 use Rattle.learner.specs.declared.Answer.the-variants as answers
@@ -86,10 +87,10 @@ abbrev idle : backups.Tables
 idle = backups.freshTables 8
 
 abbrev asking : (round : ℕ) → Value → (set : ℕ) → backups.Tables
-asking round value set = backups.withCell idle 0 (backups.cell (theRound round) backups.asking set none null value)
+asking round value set = backups.withCell idle 0 (takeovers.cell (theRound round) takeovers.asking set none null value)
 
 abbrev proposed : backups.Tables
-proposed = backups.withCell idle 0 (backups.cell (theRound 1) backups.proposed 3 (theRound 0) v w)
+proposed = backups.withCell idle 0 (takeovers.cell (theRound 1) takeovers.proposed 3 (theRound 0) v w)
 
 -- A start that writes a prepare of this round, and one that is refused.
 abbrev starts : (own : ℕ) → backups.Tables → (floor round : ℕ) → Row

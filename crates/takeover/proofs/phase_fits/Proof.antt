@@ -1,9 +1,9 @@
--- `backup::phase_fits` meets its contract: each count is what its call ensures.
+-- `takeover::phase_fits` meets its contract: each count is what its call ensures.
 -- Assumes nothing.
-use Rattle.backup.specs.Backup.{phaseFits}
+use Rattle.takeover.specs.Takeover.{phaseFits}
 use borrow.Author.Needs.{needs}
-use Rattle.backup.proofs.phase_fits.Statement.{statement}
-use Rattle.backup.proofs.phase_fits.Tie as tie
+use Rattle.takeover.proofs.phase_fits.Statement.{statement}
+use Rattle.takeover.proofs.phase_fits.Tie as tie
 
 size-requires : tie.Need-size-requires
 size-requires c κs = search needs

@@ -1,11 +1,11 @@
--- `backup::take_promise` meets its contract: each return is a way out of `promise`.
+-- `takeover::take_promise` meets its contract: each return is a way out of `promise`.
 -- Assumes nothing.
 use mathlib.Core.Path.{ap, _∙_}
-use Rattle.backup.specs.Backup.{whenMajority}
-use Rattle.backup.proofs.Rules.{promise-9, promise-17, promise-11, promise-15, promise-counted}
+use Rattle.takeover.specs.Takeover.{whenMajority}
+use Rattle.takeover.proofs.Rules.{promise-9, promise-17, promise-11, promise-15, promise-counted}
 use borrow.Author.Needs.{needs}
-use Rattle.backup.proofs.take_promise.Statement.{statement}
-use Rattle.backup.proofs.take_promise.Tie as tie
+use Rattle.takeover.proofs.take_promise.Statement.{statement}
+use Rattle.takeover.proofs.take_promise.Tie as tie
 
 returns : tie.Need-returns
 returns c = promise-9 _ _ _ _ _ _ _ _ (c .if1 .taken)

@@ -1,9 +1,9 @@
--- `backup::is_possible` meets its contract: each side is what its call ensures.
+-- `takeover::is_possible` meets its contract: each side is what its call ensures.
 -- Assumes nothing.
-use Rattle.backup.specs.Backup.{possible}
+use Rattle.takeover.specs.Takeover.{possible}
 use borrow.Author.Needs.{needs}
-use Rattle.backup.proofs.is_possible.Statement.{statement}
-use Rattle.backup.proofs.is_possible.Tie as tie
+use Rattle.takeover.proofs.is_possible.Statement.{statement}
+use Rattle.takeover.proofs.is_possible.Tie as tie
 
 is-fresh-requires : tie.Need-is-fresh-requires
 is-fresh-requires c κs = search needs

@@ -6,7 +6,7 @@ use native.Mathlib.Omega.{arith}
 use Rattle.wire.specs.declared.Round.{Round}
 use Rattle.wire.specs.Rounds.{theRound, ownerOf}
 use Rattle.wire.proofs.Rounds.{owner-is, owner-remainder}
-use Rattle.backup.specs.Backup.{nextRound, SmallestOwned}
+use Rattle.takeover.specs.Takeover.{nextRound, SmallestOwned}
 
 module _ (own above : ℕ) where
   next-above : above < nextRound own above

@@ -1,12 +1,12 @@
--- `backup::propose_at_majority` meets its contract: each return is a side of the choice, by whether the set reaches majority.
+-- `takeover::propose_at_majority` meets its contract: each return is a side of the choice, by whether the set reaches majority.
 -- Assumes nothing.
 use mathlib.Core.Path.{sym, _∙_}
 use borrow.Author.Tests.{not-true, not-false}
 use Rattle.wire.proofs.Ladder.{if-true, if-false}
-use Rattle.backup.specs.Backup.{whenMajority}
+use Rattle.takeover.specs.Takeover.{whenMajority}
 use borrow.Author.Needs.{needs}
-use Rattle.backup.proofs.propose_at_majority.Statement.{statement}
-use Rattle.backup.proofs.propose_at_majority.Tie as tie
+use Rattle.takeover.proofs.propose_at_majority.Statement.{statement}
+use Rattle.takeover.proofs.propose_at_majority.Tie as tie
 
 reaches-majority-requires : tie.Need-reaches-majority-requires
 reaches-majority-requires c κs = search needs

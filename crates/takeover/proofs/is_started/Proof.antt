@@ -1,9 +1,9 @@
--- `backup::is_started` meets its contract: each test is what its call ensures.
+-- `takeover::is_started` meets its contract: each test is what its call ensures.
 -- Assumes nothing.
-use Rattle.backup.specs.Backup.{isStarted}
+use Rattle.takeover.specs.Takeover.{isStarted}
 use borrow.Author.Needs.{needs}
-use Rattle.backup.proofs.is_started.Statement.{statement}
-use Rattle.backup.proofs.is_started.Tie as tie
+use Rattle.takeover.proofs.is_started.Statement.{statement}
+use Rattle.takeover.proofs.is_started.Tie as tie
 
 owner-requires : tie.Need-owner-requires
 owner-requires c κs = search needs

@@ -1,9 +1,9 @@
--- `backup::is_fresh` meets its contract: each test is what its call ensures.
+-- `takeover::is_fresh` meets its contract: each test is what its call ensures.
 -- Assumes nothing.
-use Rattle.backup.specs.Backup.{isFresh}
+use Rattle.takeover.specs.Takeover.{isFresh}
 use borrow.Author.Needs.{needs}
-use Rattle.backup.proofs.is_fresh.Statement.{statement}
-use Rattle.backup.proofs.is_fresh.Tie as tie
+use Rattle.takeover.proofs.is_fresh.Statement.{statement}
+use Rattle.takeover.proofs.is_fresh.Tie as tie
 
 is-none-requires : tie.Need-is-none-requires
 is-none-requires c κs = search needs

@@ -1,9 +1,9 @@
--- `backup::start_cell` meets its contract: each return is a way out of `start`.
+-- `takeover::start_cell` meets its contract: each return is a way out of `start`.
 -- Assumes nothing.
-use Rattle.backup.proofs.Rules.{start-17, start-16, start-sent}
+use Rattle.takeover.proofs.Rules.{start-17, start-16, start-sent}
 use borrow.Author.Needs.{needs}
-use Rattle.backup.proofs.start_cell.Statement.{statement}
-use Rattle.backup.proofs.start_cell.Tie as tie
+use Rattle.takeover.proofs.start_cell.Statement.{statement}
+use Rattle.takeover.proofs.start_cell.Tie as tie
 
 is-possible-requires : tie.Need-is-possible-requires
 is-possible-requires c κs = search needs

@@ -1,11 +1,11 @@
--- `backup::count_promise` meets its contract: each return is a side of the choice, by the order of the vote rounds.
+-- `takeover::count_promise` meets its contract: each return is a side of the choice, by the order of the vote rounds.
 -- Assumes nothing.
 use mathlib.Core.Path.{sym, _∙_}
 use Rattle.wire.proofs.Ladder.{if-true, if-false}
-use Rattle.backup.specs.Backup.{counting}
+use Rattle.takeover.specs.Takeover.{counting}
 use borrow.Author.Needs.{needs}
-use Rattle.backup.proofs.count_promise.Statement.{statement}
-use Rattle.backup.proofs.count_promise.Tie as tie
+use Rattle.takeover.proofs.count_promise.Statement.{statement}
+use Rattle.takeover.proofs.count_promise.Tie as tie
 
 with-member-requires : tie.Need-with-member-requires
 with-member-requires c κs = search needs

@@ -3,7 +3,7 @@
 use Prim.Native.Nat.{ℕ, _≤_, _<_, max}
 use mathlib.Core.Path.{_≡_}
 use mathlib.Core.Bool.{Bool, true, false, not, _&&_}
-use lib.Dec.{eqb, ltb}
+use lib.Dec.{eqb}
 use borrow.Author.Tests.{not-true, not-false, lt-ltb, le-ltb}
 use Rattle.wire.specs.declared.Instance.{Instance}
 use Rattle.wire.specs.declared.Message.the-variants.{Prepare}
@@ -14,8 +14,8 @@ use Rattle.wire.specs.Ladder.{need_or_then_}
 use Rattle.wire.specs.Rounds.{theRound, sameRound}
 use Rattle.wire.specs.Step.{Ruling, refused, sends}
 use Rattle.quorum.specs.Quorum.{hasMember}
-use Rattle.backup.specs.declared.Cell.{Cell}
-use Rattle.backup.specs.Backup.{asking, possible, nextRound, started, start, counting, whenMajority, promise}
+use Rattle.takeover.specs.declared.Cell.{Cell}
+use Rattle.takeover.specs.Takeover.{asking, possible, nextRound, started, start, counting, whenMajority, promise}
 
 -- ---- start
 

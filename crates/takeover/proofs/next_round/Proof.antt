@@ -1,12 +1,12 @@
--- `backup::next_round` meets its contract: the larger of the two is taken, and the formula is the definition.
+-- `takeover::next_round` meets its contract: the larger of the two is taken, and the formula is the definition.
 -- Assumes nothing.
 use mathlib.Core.Path.{ap}
 use mathlib.Core.Logic.{⊎-elim}
-use Rattle.backup.specs.Backup.{nextRound}
+use Rattle.takeover.specs.Takeover.{nextRound}
 use native.Mathlib.Omega.{arith}
 use borrow.Author.Needs.{needs}
-use Rattle.backup.proofs.next_round.Statement.{statement}
-use Rattle.backup.proofs.next_round.Tie as tie
+use Rattle.takeover.proofs.next_round.Statement.{statement}
+use Rattle.takeover.proofs.next_round.Tie as tie
 
 add-first : tie.Need-add-first
 add-first c = search needs

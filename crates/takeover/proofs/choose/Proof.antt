@@ -1,11 +1,11 @@
--- `backup::choose` meets its contract: each return is a side of the choice.
+-- `takeover::choose` meets its contract: each return is a side of the choice.
 -- Assumes nothing.
 use mathlib.Core.Path.{sym, _∙_}
 use Rattle.wire.proofs.Ladder.{if-true, if-false}
-use Rattle.backup.specs.Backup.{chosen}
+use Rattle.takeover.specs.Takeover.{chosen}
 use borrow.Author.Needs.{needs}
-use Rattle.backup.proofs.choose.Statement.{statement}
-use Rattle.backup.proofs.choose.Tie as tie
+use Rattle.takeover.proofs.choose.Statement.{statement}
+use Rattle.takeover.proofs.choose.Tie as tie
 
 is-none-requires : tie.Need-is-none-requires
 is-none-requires c κs = search needs

@@ -1,0 +1,3 @@
+mod Rules
+pub mod Next
+pub mod Laws
