@@ -40,7 +40,7 @@ pub length-bytesAt : (p : List ℕ) (at w : ℕ) → length (bytesAt p at w) ≡
 length-bytesAt p at zero = refl
 length-bytesAt p at (suc w) = ap suc (length-bytesAt p (at + 1) w)
 
-bytesAt-add : (p : List ℕ) (at v w : ℕ) → bytesAt p at (v + w) ≡ bytesAt p at v ++ bytesAt p (at + v) w
+pub bytesAt-add : (p : List ℕ) (at v w : ℕ) → bytesAt p at (v + w) ≡ bytesAt p at v ++ bytesAt p (at + v) w
 bytesAt-add p at zero w = rw (zero-add, add-zero)
 bytesAt-add p at (suc v) w =
     rw suc-add
@@ -65,7 +65,7 @@ pub length-toBytes : (w n : ℕ) → length (toBytes w n) ≡ w
 length-toBytes zero n = refl
 length-toBytes (suc w) n = ap suc (length-toBytes w n)
 
-sets-append : (l : List ℕ) (i : ℕ) (xs ys : List ℕ) → sets l i (xs ++ ys) ≡ sets (sets l i xs) (i + length xs) ys
+pub sets-append : (l : List ℕ) (i : ℕ) (xs ys : List ℕ) → sets l i (xs ++ ys) ≡ sets (sets l i xs) (i + length xs) ys
 sets-append l i [] ys = rw add-zero
 sets-append l i (x ∷ xs) ys =
     sets-append (set l i x) (suc i) xs ys ∙ ap (λ (k : ℕ). sets (sets (set l i x) (suc i) xs) k ys) (omega arith)
@@ -133,7 +133,7 @@ pub toBytes-numberAt : (p : List ℕ) → Bytes p → (at w : ℕ) → at + w �
 toBytes-numberAt p h at w inside = ap (toBytes w) (number-within p at w inside) ∙ toBytes-bigEndian p h at w
 
 -- a list of known length is the list of its elements, written out: stores at literal places, and reads there, then compute
-bytesAt-part : (p : List ℕ) (at w : ℕ) → at + w ≤ length p → bytesAt p at w ≡ take w (drop at p)
+pub bytesAt-part : (p : List ℕ) (at w : ℕ) → at + w ≤ length p → bytesAt p at w ≡ take w (drop at p)
 bytesAt-part p at zero h = refl
 bytesAt-part p at (suc w) h =
     let inside : at < length p = omega arith in

@@ -1,0 +1,5 @@
+mod Lists
+mod Codec
+mod Ways
+pub mod Promises
+pub mod RoundTrip
