@@ -2,12 +2,12 @@
 -- cell stays possible, and what is sent keeps the packet table. Each is wire's theorem for any player, from the facts of this player's rule and tables.
 -- Assumes nothing.
 use Prim.Native.Nat.{ℕ, _+_, _*_, _≤_, _<_, _^_}
-use mathlib.Core.Path.{_≡_, refl, sym, ap, subst}
+use mathlib.Core.Path.{_≡_, refl, sym, ap, _∙_, subst}
 use mathlib.Core.Bool.{true, false}
 use mathlib.Core.List.{List, [], _∷_}
 use native.Mathlib.Omega.{arith}
 use lib.Dec.{lit<}
-use lib.ListN.{length, length-replicate}
+use lib.ListN.{length, length-set, length-replicate}
 use Rattle.wire.specs.declared.Instance.{Instance}
 use Rattle.wire.specs.declared.Message.{Message}
 use Rattle.wire.specs.declared.Message.the-variants.{Prepare, Promise, Propose, Vote}
@@ -29,7 +29,7 @@ use Rattle.wire.proofs.Eliminators.{prepare-elim, propose-elim}
 use Rattle.wire.proofs.Ladder.{need-elim, both-true, and-true}
 use Rattle.wire.proofs.Laws.{one-of, Writable, prepare-owned, propose-owned}
 use Rattle.wire.proofs.Parts.{ValueFits, prepare-fits, propose-fits, propose-value-fits, promise-writable, vote-writable}
-use Rattle.wire.proofs.Promises.{RuledBy, NextCell, SendsOnly, refusal-keeps-all, numbers-are, other-cells-stay, possible-stays, sends-kept, fitting-stays}
+use Rattle.wire.proofs.Promises.{RuledBy, NextCell, SendsOnly, refusal-keeps-all, numbers-are, other-cells-stay, possible-stays, sends-kept, fitting-stays, tables-hold, any-cell}
 use Rattle.wire.proofs.Rounds.{owned-or-0, zero-owned}
 use Rattle.wire.proofs.Steps.{PlacedBy, placed-index, placed-by}
 use Rattle.wire.proofs.Votes.{never-voted, vote-rises, vote-itself}
@@ -42,21 +42,21 @@ use Rattle.acceptor.proofs.Ways.{promising, voting, allowed-tables, ind
 
 -- what holds of both kinds, obeyed or refused, and of the refusal of any other kind, holds of the rule
 module _ (P : Ruling Cell → Type 0) (own : ℕ) (c : Cell) (m : Message) (other : P (refused 6)) (impossible : P (refused 17)) (below : P (refused 10)) where
-  rule-elim : ((i : Instance) (r : Round) → m ≡ Prepare i r → possible c ≡ true → atMost (c .round) r ≡ true → P (promising own i r c))
-      → ((i : Instance) (r : Round) (v : Value) → m ≡ Propose i r v → P (voting own i r v c)) → P (rule own c m)
+  pub rule-elim : ((i : Instance) (r : Round) → m ≡ Prepare i r → possible c ≡ true → atMost (c .round) r ≡ true → P (promising own i r c))
+      → ((i : Instance) (r : Round) (v : Value) → m ≡ Propose i r v → possible c ≡ true → atMost (c .round) r ≡ true → P (voting own i r v c)) → P (rule own c m)
   unfolding rule obeying
   rule-elim promises votes =
       prepare-elim P _ _ m
       (λ i r e. need-elim P _ _ _ impossible λ fine. need-elim P _ _ _ below λ low. promises i r e fine low)
-      (propose-elim P _ _ m (λ i r v e. need-elim P _ _ _ impossible λ _. need-elim P _ _ _ below λ _. votes i r v e) other)
+      (propose-elim P _ _ m (λ i r v e. need-elim P _ _ _ impossible λ fine. need-elim P _ _ _ below λ low. votes i r v e fine low) other)
 
-place-elim : (Such : ℕ → Type 0) (N : ℕ) (m : Message) → Such 6 → Such 8 → PlacedBy Such (place N m)
+pub place-elim : (Such : ℕ → Type 0) (N : ℕ) (m : Message) → Such 6 → Such 8 → PlacedBy Such (place N m)
 unfolding place
 place-elim Such N m six eight =
     prepare-elim (PlacedBy Such) _ _ m (λ i r _. placed-by Such N i eight) (propose-elim (PlacedBy Such) _ _ m (λ i r v _. placed-by Such N i eight) six)
 
 -- a place that a message has is an instance's below N
-placed-below : (N : ℕ) (m : Message) (index : ℕ) → place N m ≡ At index → index < N
+pub placed-below : (N : ℕ) (m : Message) (index : ℕ) → place N m ≡ At index → index < N
 unfolding place
 placed-below N m =
     prepare-elim (λ p. (index : ℕ) → p ≡ At index → index < N) _ _ m (λ i r _ index e. placed-index N i index e .1)
@@ -107,7 +107,7 @@ voted-possible : (r : Round) (v : Value) → ownedOr0 r ≡ true → possible (c
 unfolding possible
 voted-possible r v owned = and-true owned (vote-itself r v owned)
 
-promise-sent : {own : ℕ} {t : Tables} → own ≤ 6 → Fitting t → (index : ℕ) (i : Instance) (r : Round) → Writable (Prepare i r) → possible (cellAt t index) ≡ true
+pub promise-sent : {own : ℕ} {t : Tables} → own ≤ 6 → Fitting t → (index : ℕ) (i : Instance) (r : Round) → Writable (Prepare i r) → possible (cellAt t index) ≡ true
     → atMost (roundAt (t .rounds) index) r ≡ true → Writable (Promise own i r (roundAt (t .voteRounds) index) (valueAt (t .values) index))
 unfolding possible
 promise-sent {own} {t} few fits index i r w fine low =
@@ -116,7 +116,7 @@ promise-sent {own} {t} few fits index i r w fine low =
     (record { high-fits = fits .fitting-values (2 * index); low-fits = fits .fitting-values (2 * index + 1) }) (prepare-owned i r (w .kept))
     (vote-rises (c .round) r (c .«vote_round») (c .value) low (both-true (ownedOr0 (c .round)) (isVoteBy (c .round) (c .«vote_round») (c .value)) fine .1))
 
-vote-sent : {own : ℕ} → own ≤ 6 → (i : Instance) (r : Round) (v : Value) → Writable (Propose i r v) → Writable (Vote own i r v)
+pub vote-sent : {own : ℕ} → own ≤ 6 → (i : Instance) (r : Round) (v : Value) → Writable (Propose i r v) → Writable (Vote own i r v)
 vote-sent {own} few i r v w = vote-writable own i r v few (propose-fits i r v w) (propose-value-fits i r v w) (propose-owned i r v (w .kept))
 
 fitting-cell : (t : Tables) (index : ℕ) (c : Cell) → Fitting t → c .round .0 < 2 ^ 32 → c .«vote_round» .0 < 2 ^ 32 → ValueFits (c .value) → Fitting (withCell t index c)
@@ -124,6 +124,14 @@ fitting-cell t index c fits round vote value = record {
   fitting-rounds = below-set (2 ^ 32) (t .rounds) index (c .round .0) (fits .fitting-rounds) round;
   fitting-vote-rounds = below-set (2 ^ 32) (t .voteRounds) index (c .«vote_round» .0) (fits .fitting-vote-rounds) vote;
   fitting-values = below-value (t .values) index (c .value) (fits .fitting-values) (value .high-fits) (value .low-fits);
+}
+
+-- stored cells keep the tables' sizes
+sized-with : {n : ℕ} (t : Tables) (index : ℕ) (c : Cell) → Sized n t → Sized n (withCell t index c)
+sized-with t index c sized = record {
+  of-rounds = length-set (t .rounds) index (c .round .0) ∙ sized .of-rounds;
+  of-vote-rounds = length-set (t .voteRounds) index (c .«vote_round» .0) ∙ sized .of-vote-rounds;
+  of-values = simp length-set (sized .of-values);
 }
 
 -- ---- the promises
@@ -142,7 +150,7 @@ module _ (s : Settings) (own : ℕ) where
       numbers-are (acceptor s own) (8 ∷ 17 ∷ 10 ∷ []) verdicts
       (λ m. place-elim (λ n. OneOf n refusals) (s .instances) m (one-of 6 refusals refl) (one-of 8 refusals refl))
       (λ c m. rule-elim (RuledBy refusals verdicts) own c m (one-of 6 refusals refl) (one-of 17 refusals refl) (one-of 10 refusals refl)
-      (λ i r _ _ _. first) (λ i r v _. later first))
+      (λ i r _ _ _. first) (λ i r v _ _ _. later first))
 
   pub acceptor-refusal-keeps-all : RefusalKeepsAll (acceptorStep s own)
   unfolding acceptorStep
@@ -160,7 +168,7 @@ module _ (s : Settings) (own : ℕ) where
       possible
       (λ c m kept. rule-elim (NextCell (λ d. possible d ≡ true)) own c m tt tt tt
       (λ i r e fine low. promised-possible c r (prepare-owned i r (subst (λ n. keepsTable (fieldsOf n) ≡ true) e kept)) fine low)
-      (λ i r v e. voted-possible r v (propose-owned i r v (subst (λ n. keepsTable (fieldsOf n) ≡ true) e kept))))
+      (λ i r v e _ _. voted-possible r v (propose-owned i r v (subst (λ n. keepsTable (fieldsOf n) ≡ true) e kept))))
 
   pub acceptor-sends-kept : SendsKept (acceptorStep s own) Fitting
   unfolding acceptorStep acceptor saysSend
@@ -168,7 +176,7 @@ module _ (s : Settings) (own : ℕ) where
       sends-kept (acceptor s own) Fitting
       (λ t m index allowed fits writable. rule-elim (SendsOnly Writable) own (cellAt t index) m refl refl refl
       (λ i r e fine low. promise-sent (allowed-tables s own t allowed .own-few) fits index i r (subst Writable e writable) fine low)
-      (λ i r v e. vote-sent (allowed-tables s own t allowed .own-few) i r v (subst Writable e writable)))
+      (λ i r v e _ _. vote-sent (allowed-tables s own t allowed .own-few) i r v (subst Writable e writable)))
       (λ m. place-elim (λ n. saysSend n ≡ false) (s .instances) m refl refl)
 
   pub acceptor-fitting-stays : FittingStays (acceptorStep s own) Fitting
@@ -178,5 +186,11 @@ module _ (s : Settings) (own : ℕ) where
       (λ t m index _ fits writable. rule-elim (NextCell (λ c. Fitting (withCell t index c))) own (cellAt t index) m tt tt tt
       (λ i r e _ _. fitting-cell t index (cell r (roundAt (t .voteRounds) index) (valueAt (t .values) index)) fits (prepare-fits i r (subst Writable e writable) .round-fits)
       (fits .fitting-vote-rounds index) (record { high-fits = fits .fitting-values (2 * index); low-fits = fits .fitting-values (2 * index + 1) }))
-      (λ i r v e. let round = propose-fits i r v (subst Writable e writable) .round-fits in
+      (λ i r v e _ _. let round = propose-fits i r v (subst Writable e writable) .round-fits in
       fitting-cell t index (cell r r v) fits round round (propose-value-fits i r v (subst Writable e writable))))
+
+  -- the tables keep their sizes
+  pub acceptor-sized-stays : (packet : List ℕ) (t : Tables) {n : ℕ} → Sized n t → Sized n (acceptorStep s own packet t .tables)
+  unfolding acceptorStep acceptor
+  acceptor-sized-stays packet t {n} =
+      tables-hold (acceptor s own) (Sized n) packet t (λ m i _ _ _ before. any-cell (λ c. Sized n (withCell t i c)) (λ c. sized-with t i c before) (rule own (cellAt t i) m))

@@ -7,10 +7,12 @@ use mathlib.Core.Bool.{true, false, false≢true}
 use mathlib.Core.List.{List, [], _∷_}
 use native.Mathlib.Omega.{arith}
 use lib.Dec.{lit<}
-use lib.ListN.{length-replicate}
+use lib.ListN.{length-set, length-replicate}
 use Rattle.wire.specs.declared.Instance.{Instance}
 use Rattle.wire.specs.declared.Message.{Message}
+use Rattle.wire.specs.declared.Message.the-variants.{Prepare, Promise, Propose}
 use Rattle.wire.specs.declared.Place.the-variants.{At, Nowhere}
+use Rattle.wire.specs.declared.Round.{Round}
 use Rattle.wire.specs.declared.Value.{Value}
 use Rattle.wire.specs.declared.Verdict.the-variants.{ToAcceptors, Hold}
 use Rattle.wire.specs.Rounds.{theRound, ownerOf}
@@ -23,7 +25,7 @@ use Rattle.wire.proofs.Columns.{number-there, number-apart, round-there, round-
 use Rattle.wire.proofs.Eliminators.{promise-elim}
 use Rattle.wire.proofs.Ladder.{if-elim, need-elim}
 use Rattle.wire.proofs.Laws.{one-of, promise-sender, promise-votes, Writable}
-use Rattle.wire.proofs.Promises.{RuledBy, NextCell, refusal-keeps-all, numbers-are, other-cells-stay, possible-stays, SendsOnly, sends-kept, fitting-stays, ruled-keeps, ruled-numbers, ruled-tables, ruled-sends, any-cell, stored-possible}
+use Rattle.wire.proofs.Promises.{RuledBy, NextCell, refusal-keeps-all, numbers-are, other-cells-stay, possible-stays, SendsOnly, sends-kept, fitting-stays, ruled-keeps, ruled-numbers, ruled-tables, ruled-sends, any-cell, stored-possible, tables-hold}
 use Rattle.wire.proofs.Steps.{PlacedBy, placed-index, placed-by}
 use Rattle.wire.proofs.Parts.{ValueFits, promise-fits, propose-writable, prepare-writable}
 use Rattle.wire.proofs.Rounds.{owned-or-0, backup-owned}
@@ -31,8 +33,9 @@ use Rattle.wire.specs.Packet.{Kept}
 use Rattle.wire.specs.declared.Place.{Place}
 use Rattle.takeover.proofs.Next.{next-smallest}
 use Rattle.quorum.specs.declared.Settings.{Settings}
+use Rattle.quorum.specs.Quorum.{hasMember}
 use Rattle.takeover.specs.declared.Cell.{Cell}
-use Rattle.takeover.specs.Takeover.{idle, freshCell, possible, counting, chosen, whenMajority, started, start, nextRound}
+use Rattle.takeover.specs.Takeover.{idle, asking, freshCell, possible, counting, chosen, whenMajority, rule, started, start, nextRound}
 use Rattle.backup.specs.Backup.{Tables, freshTables, cellAt, withCell, backup, backupStep, Sized, Within, backupAllowed, backupStart, Fitting}
 use Rattle.takeover.proofs.Laws.{same-cell, rule-elim, asking-started, counted, counted-possible, FitsCell, null-fits, counting-fits, closed-fits, chosen-fits, start-rule-elim, started-possible}
 use Rattle.backup.proofs.Ways.{allowed-tables, index-within}
@@ -103,10 +106,37 @@ fresh-fitting N = record {
 -- ---- the step
 
 -- a place that a promise has is an instance's below N
-placed-below : (N : ℕ) (m : Message) (index : ℕ) → whenPromise (λ sender instance round voteRound value. placed N instance) (Nowhere 6) m ≡ At index → index < N
+pub placed-below : (N : ℕ) (m : Message) (index : ℕ) → whenPromise (λ sender instance round voteRound value. placed N instance) (Nowhere 6) m ≡ At index → index < N
 placed-below N m =
     promise-elim (λ p. (index : ℕ) → p ≡ At index → index < N) _ _ m (λ _ i _ _ _ _ index e. placed-index N i index e .1)
     (λ index e. let z : _≡_ {A = ℕ} 0 1 = cc in absurd (omega arith))
+
+-- what is proposed at majority can be written
+module _ (s : Settings) (own : ℕ) (t : Tables) (index a : ℕ) (i : Instance) (r b : Round) (v : Value) where
+  pub propose-sent : backupAllowed s own t ≡ true → Fitting t → Writable (Promise a i r b v) → a < s .acceptors → possible (s .acceptors) own (cellAt t index) ≡ true
+      → cellAt t index .phase ≡ asking → r .0 ≡ cellAt t index .round .0 → hasMember (cellAt t index .set) a ≡ false
+      → Writable (Propose i (counting (cellAt t index) a b v .round) (chosen (counting (cellAt t index) a b v)))
+  propose-sent allowed fits w known fine asks same absent =
+      let c = cellAt t index in
+      let low = promise-sender a i r b v (w .kept) in
+      let next = counting-fits c a i r b v (fitting-at t index fits) w low in
+      let few = allowed-tables s own t allowed in
+      let kept = counted (s .acceptors) own c a r b v known low fine asks same absent (promise-votes a i r b v (w .kept)) in
+      let mine = ap ownerOf (kept .same-round) ∙ asking-started (s .acceptors) own c fine asks .mine in
+      propose-writable i (counting c a b v .round) (chosen (counting c a b v))
+      (record { instance-fits = promise-fits a i r b v w .instance-fits; round-fits = next .round-fits }) (chosen-fits (counting c a b v) next)
+      (owned-or-0 _ (backup-owned (counting c a b v .round) own (few .own-least) (few .own-most) mine))
+
+-- stored cells keep the tables' sizes
+sized-with : {n : ℕ} (t : Tables) (index : ℕ) (c : Cell) → Sized n t → Sized n (withCell t index c)
+sized-with t index c sized = record {
+  of-rounds = length-set (t .rounds) index (c .round .0) ∙ sized .of-rounds;
+  of-phases = length-set (t .phases) index (c .phase) ∙ sized .of-phases;
+  of-sets = length-set (t .sets) index (c .set) ∙ sized .of-sets;
+  of-best-vote-rounds = length-set (t .bestVoteRounds) index (c .«best_vote_round» .0) ∙ sized .of-best-vote-rounds;
+  of-best-values = simp length-set (sized .of-best-values);
+  of-own-values = simp length-set (sized .of-own-values);
+}
 
 -- Order for a packet: 7, 1 to 5, 6, 8, 9, 17, 11, 15.
 abbrev pub refusals : List ℕ
@@ -151,19 +181,7 @@ module _ (s : Settings) (own : ℕ) where
       sends-kept (backup s own) Fitting
       (λ t m index allowed fits writable. rule-elim (SendsOnly Writable) (s .acceptors) own (cellAt t index) m refl refl refl refl refl
       (λ a i r b v e known fine asks same absent.
-      let c = cellAt t index in
-      let w = subst Writable e writable in
-      let here = w .kept in
-      let low = promise-sender a i r b v here in
-      let next = counting-fits c a i r b v (fitting-at t index fits) w low in
-      let few = allowed-tables s own t allowed in
-      let kept = counted (s .acceptors) own c a r b v known low fine asks same absent (promise-votes a i r b v here) in
-      let mine = ap ownerOf (kept .same-round) ∙ asking-started (s .acceptors) own c fine asks .mine in
-      if-elim (SendsOnly Writable) _ _ _
-      (λ _. propose-writable i (counting c a b v .round) (chosen (counting c a b v))
-      (record { instance-fits = promise-fits a i r b v w .instance-fits; round-fits = next .round-fits }) (chosen-fits (counting c a b v) next)
-      (owned-or-0 _ (backup-owned (counting c a b v .round) own (few .own-least) (few .own-most) mine)))
-      (λ _. refl)))
+      if-elim (SendsOnly Writable) _ _ _ (λ _. propose-sent s own t index a i r b v allowed fits (subst Writable e writable) known fine asks same absent) (λ _. refl)))
       (λ m. promise-elim (PlacedBy (λ n. saysSend n ≡ false)) _ _ m (λ _ i _ _ _ _. placed-by (λ n. saysSend n ≡ false) (s .instances) i refl) refl)
 
   pub backup-fitting-stays : FittingStays (backupStep s own) Fitting
@@ -176,6 +194,13 @@ module _ (s : Settings) (own : ℕ) where
       let next = counting-fits (cellAt t index) a i r b v (fitting-at t index fits) w (promise-sender a i r b v (w .kept)) in
       if-elim (NextCell (λ c. Fitting (withCell t index c))) _ _ _ (λ _. fitting-with t index _ fits (closed-fits (counting (cellAt t index) a b v) next))
       (λ _. fitting-with t index (counting (cellAt t index) a b v) fits next)))
+
+  -- the tables keep their sizes
+  pub backup-sized-stays : (packet : List ℕ) (t : Tables) {n : ℕ} → Sized n t → Sized n (backupStep s own packet t .tables)
+  unfolding backupStep backup
+  backup-sized-stays packet t {n} =
+      tables-hold (backup s own) (Sized n) packet t
+      (λ m i _ _ _ before. any-cell (λ c. Sized n (withCell t i c)) (λ c. sized-with t i c before) (rule (s .acceptors) own (cellAt t i) m))
 
 -- ---- the start
 
@@ -195,7 +220,7 @@ module _ (s : Settings) (own : ℕ) (i : Instance) (floor : ℕ) (v : Value) whe
     abbrev start-ruling : (index : ℕ) → Ruling Cell
     start-ruling index = start (s .acceptors) own (cellAt t index) i floor v
 
-    start-elim : (Q : Outcome Tables → Type 0) → Q (unchanged buffer t 7) → Q (unchanged buffer t 1) → Q (unchanged buffer t 8)
+    pub start-elim : (Q : Outcome Tables → Type 0) → Q (unchanged buffer t 7) → Q (unchanged buffer t 1) → Q (unchanged buffer t 8)
         → (backupAllowed s own t ≡ true → (index : ℕ) → placed (s .instances) i ≡ At index → Q (ruled buffer t (withCell t index) (start-ruling index)))
         → Q (backupStart s own i floor v buffer t)
     unfolding backupStart afterPlacing
@@ -237,16 +262,27 @@ module _ (s : Settings) (own : ℕ) (i : Instance) (floor : ℕ) (v : Value) whe
       (started-possible (s .acceptors) own _ v (omega (arith, few .few .majority-least))
       (next-smallest own (cellAt t used .round .0) floor (few .own-least) (few .own-most) below .owned)))))
 
+  pub start-sized-stays : (buffer : List ℕ) (t : Tables) {n : ℕ} → Sized n t → Sized n (backupStart s own i floor v buffer t .tables)
+  start-sized-stays buffer t {n} before =
+      start-elim buffer t (λ o. Sized n (o .tables)) before before before
+      (λ _ index _. ruled-tables buffer t (withCell t index) (Sized n) before (start-ruling buffer t index)
+      (any-cell (λ c. Sized n (withCell t index c)) (λ c. sized-with t index c before) (start-ruling buffer t index)))
+
+  -- the prepare of a start can be written
+  pub prepare-sent : (t : Tables) (index : ℕ) → i .0 < 2 ^ 32 → backupAllowed s own t ≡ true → nextRound own (max (cellAt t index .round .0) floor) < 4294967295
+      → Writable (Prepare i (theRound (nextRound own (max (cellAt t index .round .0) floor))))
+  prepare-sent t index instance-fits allowed below =
+      let few = allowed-tables s own t allowed in
+      prepare-writable i _ (record { instance-fits = instance-fits; round-fits = omega arith })
+      (backup-owned _ own (few .own-least) (few .own-most) (next-smallest own (cellAt t index .round .0) floor (few .own-least) (few .own-most) below .owned))
+
   module _ (instance-fits : i .0 < 2 ^ 32) (value-fits : ValueFits v) where
     pub start-sends-kept : SendsKept (backupStart s own i floor v) Fitting
     unfolding saysSend
     start-sends-kept buffer t bytes fits =
         start-elim buffer t (λ o. saysSend (o .verdict) ≡ true → Kept (o .packet)) (λ e. absurd (false≢true e)) (λ e. absurd (false≢true e)) (λ e. absurd (false≢true e))
-        (λ allowed index _. let few = allowed-tables s own t allowed in
-        ruled-sends buffer t (withCell t index) (start-ruling buffer t index)
-        (start-rule-elim (SendsOnly Writable) (s .acceptors) own (cellAt t index) i floor v refl refl
-        (λ below. prepare-writable i _ (record { instance-fits = instance-fits; round-fits = omega arith })
-        (backup-owned _ own (few .own-least) (few .own-most) (next-smallest own (cellAt t index .round .0) floor (few .own-least) (few .own-most) below .owned)))))
+        (λ allowed index _. ruled-sends buffer t (withCell t index) (start-ruling buffer t index)
+        (start-rule-elim (SendsOnly Writable) (s .acceptors) own (cellAt t index) i floor v refl refl (prepare-sent t index instance-fits allowed)))
 
     pub start-fitting-stays : FittingStays (backupStart s own i floor v) Fitting
     start-fitting-stays buffer t bytes fits =

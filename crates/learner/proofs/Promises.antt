@@ -77,7 +77,7 @@ fitting-with t index c fits cell-fits = record {
 }
 
 -- a place that a vote has is an instance's below N
-placed-below : (N : ℕ) (m : Message) (index : ℕ) → whenVote (λ sender instance round value. placed N instance) (Nowhere 6) m ≡ At index → index < N
+pub placed-below : (N : ℕ) (m : Message) (index : ℕ) → whenVote (λ sender instance round value. placed N instance) (Nowhere 6) m ≡ At index → index < N
 placed-below N m =
     vote-elim (λ p. (index : ℕ) → p ≡ At index → index < N) _ _ m (λ _ i _ _ _ index e. placed-index N i index e .1)
     (λ index e. let z : _≡_ {A = ℕ} 0 1 = cc in absurd (omega arith))

@@ -35,7 +35,7 @@ use Rattle.primary.proofs.Laws.{proposing, request-proposed, lent-elim}
 -- ---- the rule
 
 -- What holds of its three refusals, and of what it sends to a request while the next instance is below N, holds of every ruling.
-rule-elim : (P : Ruling Primary → Type 0) (N : ℕ) (held : Primary) (m : Message) → P (refused 6) → P (refused 17) → P (refused 12)
+pub rule-elim : (P : Ruling Primary → Type 0) (N : ℕ) (held : Primary) (m : Message) → P (refused 6) → P (refused 17) → P (refused 12)
     → ((switch : ℕ) (value : Value) → m ≡ Request switch value → held .next .0 < N
     → P (sends ToAcceptors (Propose (held .next) (theRound 0) value) (risen held))) → P (rule N held m)
 unfolding rule possible
@@ -74,7 +74,7 @@ abbrev pub Fits : Primary → Type 0
 Fits held = held .next .0 < 2 ^ 32
 
 -- A request's value, proposed for an instance of 32 bits, can be written.
-proposed-writable : (held : Primary) (switch : ℕ) (value : Value) → Fits held → Writable (Request switch value) → Writable (Propose (held .next) (theRound 0) value)
+pub proposed-writable : (held : Primary) (switch : ℕ) (value : Value) → Fits held → Writable (Request switch value) → Writable (Propose (held .next) (theRound 0) value)
 proposed-writable held switch value fits asked =
     propose-writable (held .next) (theRound 0) value (record { instance-fits = fits; round-fits = omega arith }) (request-value-fits switch value asked) zero-owned
 

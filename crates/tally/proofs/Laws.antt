@@ -89,7 +89,7 @@ made-heard M c h =
     or-right (isFresh c) (and-true (and-true (and-true (h .owned) (h .inside)) (ap not (ne-eqb (c .set) 0 (h .some)))) (le-leb _ _ (h .few)))
 
 -- the set of a possible tally is within M
-possible-inside : (M : ℕ) (c : Tally) → possible M c ≡ true → within M (c .set) ≡ true
+pub possible-inside : (M : ℕ) (c : Tally) → possible M c ≡ true → within M (c .set) ≡ true
 unfolding possible isFresh
 possible-inside M c fine =
     ⊎-elim

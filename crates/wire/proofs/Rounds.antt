@@ -1,15 +1,15 @@
 -- Laws of rounds: their order and their owners. Callers go by these, and not by the text of `rank` and `ownerOf`.
 -- Assumes nothing.
-use Prim.Native.Nat.{_+_, _%_, _<_, ℕ, _≤_}
+use Prim.Native.Nat.{ℕ, suc, _+_, _%_, _≤_, _<_}
 use mathlib.Core.Path.{_≡_, refl, sym, ap, _∙_}
 use mathlib.Core.Bool.{true, false, false≢true}
 use native.Mathlib.Omega.{arith}
 use native.Mathlib.Nat.{mod-eq-of-lt}
 use lib.Dec.{eqb, leb}
-use borrow.Author.Tests.{eqb-true, eqb-false, ne-eqb, le-leb}
+use borrow.Author.Tests.{eqb-true, eqb-false, ne-eqb, le-leb, leb-true}
 use Rattle.wire.specs.declared.Round.{Round}
 use Rattle.wire.specs.Ladder.{if_then_else_}
-use Rattle.wire.specs.Rounds.{theRound, none, isNone, ownerOf, ownedOr0, ownedNot0, rank}
+use Rattle.wire.specs.Rounds.{theRound, none, isNone, ownerOf, ownedOr0, ownedNot0, rank, atMost}
 use Rattle.wire.proofs.Ladder.{by-test, if-true, if-false, both-true, if-elim, and-true}
 
 -- ---- the order
@@ -21,6 +21,18 @@ rank-wraps r fits =
     by-test (isNone r)
     (λ e. let n = eqb-true (r .0) 4294967295 e in omega (arith, n) ∙ sym (if-true 0 (r .0 + 1) e))
     (λ e. let n = eqb-false (r .0) 4294967295 e in mod-eq-of-lt (omega (arith, n)) ∙ sym (if-false 0 (r .0 + 1) e))
+
+-- none comes first, then 0, 1, ..
+pub rank-none : (r : Round) → isNone r ≡ true → rank r ≡ 0
+unfolding rank
+rank-none r e = if-true 0 (r .0 + 1) e
+
+pub rank-some : (r : Round) → isNone r ≡ false → rank r ≡ suc (r .0)
+unfolding rank
+rank-some r e = if-false 0 (r .0 + 1) e ∙ omega arith
+
+pub rank-most : (r : Round) → rank r ≤ suc (r .0)
+rank-most r = by-test (isNone r) (λ e. omega (arith, rank-none r e)) (λ e. omega (arith, rank-some r e))
 
 -- ---- the owners
 
@@ -41,6 +53,11 @@ none-unowned r e = let same : r ≡ none = λ i. theRound (eqb-true (r .0) 42949
 -- what has an owner is not none
 pub owned-some : (r : Round) → ownedOr0 r ≡ true → isNone r ≡ false
 owned-some r owned = by-test (isNone r) (λ e. absurd (false≢true (sym (none-unowned r e) ∙ owned))) (λ e. e)
+
+-- where the first has an owner, rounds are ordered as their numbers
+pub at-least : (a r : Round) → ownedOr0 a ≡ true → atMost a r ≡ true → a .0 ≤ r .0
+unfolding atMost
+at-least a r owned e = omega (arith, leb-true (rank a) (rank r) e, rank-some a (owned-some a owned), rank-most r)
 
 -- a backup's rounds are those with its remainder by 4, but for none
 pub owner-is : (r : Round) (own : ℕ) → 1 ≤ own → r .0 < 4294967295 → r .0 % 4 ≡ own → ownerOf r ≡ own
