@@ -1,0 +1,103 @@
+-- Demand 3, by one proof over M and N: in a run the boxes stand for sound slots, so what is decided there is one value, and a learner's decided cell holds it.
+-- Assumes nothing.
+use Prim.Native.Nat.{ℕ, _<_}
+use mathlib.Core.Path.{_≡_, refl, sym, ap, _∙_, subst}
+use mathlib.Core.Bool.{true}
+use mathlib.Core.Logic.{_⊎_, inl, inr}
+use native.Mathlib.Omega.{arith}
+use Rattle.wire.specs.declared.Instance.{Instance}
+use Rattle.wire.specs.declared.Value.{Value}
+use Rattle.wire.specs.Rounds.{theInstance}
+use Rattle.wire.proofs.Ladder.{by-test}
+use Rattle.quorum.specs.declared.Settings.{Settings}
+use Rattle.quorum.specs.Settings.{allowed}
+use Rattle.tally.specs.declared.Tally.{Tally}
+use Rattle.tally.specs.Tally.{isDecided, possible}
+use Rattle.learner.specs.Tables.{cellAt}
+use Rattle.agreement.specs.Run.{Boxes, Later, Run, Decided, nothing, not-yet, says, said}
+use Rattle.agreement.specs.Agreement.{Agreed, Agreement, Demand3}
+use Rattle.agreement.proofs.Tidy.{run-tidy}
+use Rattle.agreement.proofs.Runs.{run-holds, joined-runs, stays-frozen}
+use Rattle.agreement.proofs.Saying.{spoken, speaks, waits, sized-allowed}
+use Rattle.agreement.proofs.Deciding.{vote-named, named, decided-inside, decided-once, cell-decided, stays-decided}
+use Rattle.agreement.proofs.Delivering.{one-prefix}
+use Rattle.agreement.proofs.Refusals as refusals
+
+-- what a learner can say of an instance below N
+data Saying (s : Settings) (w : Boxes) (which : ℕ) (i : Instance) : Type 0 where
+  waiting : said s w which i ≡ not-yet → Saying s w which i
+  speaking : (v : Value) → said s w which i ≡ says v → Saying s w which i
+
+module _ (s : Settings) (ok : allowed s ≡ true) where
+  module _ {w : Boxes} (begun : Run s w) where
+    saying : (which : ℕ) (i : Instance) → i .0 < s .instances → Saying s w which i
+    saying which i below =
+        let t = w .learner which in
+        let tidy = run-tidy begun .learners which in
+        let set-up = sized-allowed s t ok (tidy .sized) in
+        let fine = tidy .cells (i .0) below in
+        by-test (isDecided (s .acceptors) (cellAt t (i .0)))
+        (λ decided. speaking _ (speaks s t i _ (record { set-up = set-up; below = below; fine = fine; decided = decided; value = refl })))
+        (λ open-still. waiting (waits s t i set-up below fine open-still))
+
+    said-is-decided : (which : ℕ) (i : Instance) (v : Value) → said s w which i ≡ says v → Decided s w i v
+    said-is-decided which i v e =
+        let h = spoken s (w .learner which) i v e in
+        subst (Decided s w i) (h .value) (cell-decided (run-holds begun) which i (h .below) (h .fine) (h .decided))
+
+    never-nothing : (which : ℕ) (i : Instance) → i .0 < s .instances → said s w which i ≡ nothing → ⊥
+    never-nothing which i below e = go (saying which i below)
+      where
+        go : Saying s w which i → ⊥
+        go (waiting other) = let z : _≡_ {A = ℕ} 0 1 = cc in omega arith
+        go (speaking v other) = let z : _≡_ {A = ℕ} 0 1 = cc in omega arith
+
+  module _ {w u : Boxes} (begun : Run s w) (later : Later s w u) where
+    agreed : (i : Instance) (v : Value) → Decided s w i v → Agreed s u i v
+    agreed i v d = record { still = still; alone = λ other e. decided-once (run-holds whole) e still; learners = λ which. go which (saying whole which i (decided-inside (run-holds whole) still)) }
+      where
+        whole : Run s u
+        whole = joined-runs begun later
+
+        still : Decided s u i v
+        still = stays-decided later d
+
+        go : (which : ℕ) → Saying s u which i → (said s u which i ≡ not-yet) ⊎ (said s u which i ≡ says v)
+        go which (waiting e) = inl e
+        go which (speaking x e) = inr (e ∙ ap says (decided-once (run-holds whole) (said-is-decided whole which i x e) still))
+
+    keeps-saying : (which : ℕ) (i : Instance) (v : Value) → said s w which i ≡ says v → said s u which i ≡ says v
+    keeps-saying which i v e =
+        let h = spoken s (w .learner which) i v e in
+        let same = sym (stays-frozen {s = s} which (i .0) (h .decided) later) in
+        speaks s (u .learner which) i v (record {
+          set-up = sized-allowed s (u .learner which) ok (run-tidy (joined-runs begun later) .learners which .sized);
+          below = h .below;
+          fine = subst (λ c. possible (s .acceptors) c ≡ true) same (h .fine);
+          decided = subst (λ c. isDecided (s .acceptors) c ≡ true) same (h .decided);
+          value = subst (λ (c : Tally). c .value ≡ v) same (h .value);
+        })
+
+    -- where two learners have decided an instance they hold one value
+    same-cells : (first second i : ℕ) → i < s .instances → isDecided (s .acceptors) (cellAt (w .learner first) i) ≡ true
+        → isDecided (s .acceptors) (cellAt (u .learner second) i) ≡ true → cellAt (w .learner first) i .value ≡ cellAt (u .learner second) i .value
+    same-cells first second i below d e =
+        let whole = joined-runs begun later in
+        decided-once (run-holds whole)
+        (stays-decided later (cell-decided (run-holds begun) first (theInstance i) below (run-tidy begun .learners first .cells i below) d))
+        (cell-decided (run-holds whole) second (theInstance i) below (run-tidy whole .learners second .cells i below) e)
+
+  agrees : Agreement s
+  agrees = record {
+    decided-once = agreed;
+    keeps-saying = keeps-saying;
+    said-is-decided = said-is-decided;
+    votes-are-own = λ begun x there switch i r v reads. named (vote-named (run-holds begun) x there switch i r v reads);
+    never-nothing = never-nothing;
+    never-by-7-or-17 = λ begun. refusals.never-by-7-or-17 ok (run-tidy begun);
+    one-list = λ {w} {u} begun later first second.
+        one-prefix (s .acceptors) (w .learner first) (u .learner second) 0 (s .instances) (λ i below. same-cells begun later first second i (omega arith));
+  }
+
+pub agreement : Demand3
+agreement = agrees

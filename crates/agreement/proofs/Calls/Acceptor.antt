@@ -1,0 +1,139 @@
+-- An acceptor's step leaves boxes that stand for sound slots.
+-- Assumes nothing.
+use Prim.Native.Nat.{ℕ, _≤_, _<_}
+use mathlib.Core.Path.{_≡_, refl, sym, ap, _∙_, subst}
+use mathlib.Core.Bool.{true, false}
+use mathlib.Core.List.{List, _∷_}
+use Rattle.wire.specs.declared.Instance.{Instance}
+use Rattle.wire.specs.declared.Message.{Message}
+use Rattle.wire.specs.declared.Message.the-variants as kind
+use Rattle.wire.specs.declared.Reading.the-variants.{Read}
+use Rattle.wire.specs.declared.Round.{Round}
+use Rattle.wire.specs.declared.Value.{Value}
+use Rattle.wire.specs.Ladder.{if_then_else_}
+use Rattle.wire.specs.Packet.{packetOf}
+use Rattle.wire.specs.Rounds.{ownedOr0, atMost}
+use Rattle.wire.specs.Step.{unchanged, ruled}
+use Rattle.wire.specs.Table.{isVoteBy}
+use Rattle.wire.specs.Verdict.{saysSend}
+use Rattle.wire.proofs.Ladder.{if-false, both-true}
+use Rattle.wire.proofs.Laws.{Writable, read-writable, written-reads}
+use Rattle.wire.proofs.Steps.{placed-index}
+use Rattle.wire.proofs.Rounds.{at-least}
+use Rattle.quorum.specs.declared.Settings.{Settings}
+use Rattle.quorum.specs.Voters.{Mem, newest, older}
+use Rattle.acceptor.specs.declared.Cell.{Cell}
+use Rattle.acceptor.specs.Acceptor.{cell, possible, Tables, cellAt, withCell, Sized, place, acceptorStep}
+use Rattle.acceptor.specs.Acceptor as players
+use Rattle.acceptor.proofs.Promises.{rule-elim, place-elim, promise-sent, vote-sent, cell-there, cell-apart}
+use Rattle.acceptor.proofs.Ways as ways
+use Rattle.acceptor.proofs.Ways.{allowed-tables, index-within}
+use Rattle.agreement.specs.Run.{acceptor, sent, Boxes, put, afterAcceptor, Handed}
+use Rattle.agreement.proofs.Basics.{extend, put-all, put-same}
+use Rattle.agreement.proofs.Slot.{Slot, propose, Sound, Unopened}
+use Rattle.agreement.proofs.Slot.Acceptor as slot
+use Rattle.agreement.proofs.Standing.{a-promise, a-vote, Told, Holds, Grows, met, met-propose, told-more, vote-still, cells-moved, backups-same, learners-same, all-sound, inside-still, unopened-still, step-acts}
+use Rattle.agreement.proofs.Tidy.{Tidy, handed-bytes}
+
+-- the round of a possible cell, by number
+low-round : (c : Cell) (r : Round) → possible c ≡ true → atMost (c .round) r ≡ true → c .round .0 ≤ r .0
+unfolding possible
+low-round c r fine low = at-least (c .round) r (both-true (ownedOr0 (c .round)) (isVoteBy (c .round) (c .«vote_round») (c .value)) fine .0) low
+
+module _ {s : Settings} {w : Boxes} (tidy : Tidy s w) (h : Holds s w) (own : ℕ) where
+  abbrev t : Tables
+  t = w .acceptor own
+
+  refuses : (p : List ℕ) (number : ℕ) → saysSend number ≡ false → Holds s (afterAcceptor w own (unchanged p t number))
+  refuses p number quiet = record {
+    slots = h .slots;
+    acceptors = put-all (λ a u. (i : ℕ) → i < s .instances → cellAt u i ≡ h .slots i .acceptor a) (h .acceptors own) (h .acceptors);
+    backups = h .backups;
+    learners = h .learners;
+    told = subst (λ l. Told l (h .slots)) (sym (if-false (sent (acceptor own) p ∷ w .packets) (w .packets) quiet)) (h .told);
+    sound = h .sound;
+    inside = h .inside;
+    unopened = h .unopened;
+  }
+
+  -- The boxes after the acceptor stored a cell and sent a message.
+  abbrev obeyed : (j : ℕ) → Message → Cell → Boxes
+  obeyed j m c = record {
+    primary = w .primary;
+    acceptor = put (w .acceptor) own (withCell t j c);
+    backup = w .backup;
+    learner = w .learner;
+    packets = sent (acceptor own) (packetOf m) ∷ w .packets;
+  }
+
+  module _ (i : Instance) (below : i .0 < s .instances) (sized : Sized (s .instances) t) where
+    abbrev before : Slot
+    before = h .slots (i .0)
+
+    obeys : (m : Message) (c : Cell) (next : Slot) → Sound (s .acceptors) next → ((a : ℕ) → next .acceptor a ≡ put (before .acceptor) own c a)
+        → ((b : ℕ) → next .backup b ≡ before .backup b) → ((l : ℕ) → next .learner l ≡ before .learner l) → (Unopened before → Unopened next)
+        → Told (sent (acceptor own) (packetOf m) ∷ w .packets) (put (h .slots) (i .0) next) → Holds s (obeyed (i .0) m c)
+    obeys m c next sound acceptors backups learners unopened told = record {
+      slots = put (h .slots) (i .0) next;
+      acceptors =
+          cells-moved (s .instances) cellAt (λ (x : Slot). x .acceptor) (h .slots) (w .acceptor) (h .acceptors) (i .0) next own (withCell t (i .0) c) c acceptors
+          (cell-there t (i .0) c (index-within t (i .0) sized below)) (λ n differs. cell-apart t (i .0) n c differs);
+      backups = backups-same h (i .0) next backups;
+      learners = learners-same h (i .0) next learners;
+      told = told;
+      sound = all-sound h (i .0) next sound;
+      inside = inside-still h (i .0) next (λ _ _. below);
+      unopened = unopened-still h (i .0) next unopened;
+    }
+
+    promises : (r : Round) (c : Cell) → before .acceptor own ≡ c → Writable (kind.Promise own i r (c .«vote_round») (c .value)) → c .round .0 ≤ r .0
+        → Holds s (obeyed (i .0) (kind.Promise own i r (c .«vote_round») (c .value)) (cell r (c .«vote_round») (c .value)))
+    promises r c e =
+        subst
+        (λ (d : Cell). Writable (kind.Promise own i r (d .«vote_round») (d .value)) → d .round .0 ≤ r .0
+        → Holds s (obeyed (i .0) (kind.Promise own i r (d .«vote_round») (d .value)) (cell r (d .«vote_round») (d .value))))
+        e
+        (λ writable low.
+        let d = before .acceptor own in
+        let next = slot.promising before own r in
+        let grows : Grows before next = record { promises = λ x m. older m; proposes = λ x m. m; votes = λ x m. m } in
+        obeys _ _ next (slot.promises (h .sound (i .0)) own r low) (λ _. refl) (λ _. refl) (λ _. refl) (λ u. u)
+        (told-more (h .told) (i .0) next grows (acceptor own) _ writable (a-promise (rw put-same (newest refl)))
+        (λ x m. vote-still (h .told) (i .0) next grows (acceptor own) _ writable (h .told .votes i x m))))
+
+    votes : (r : Round) (v : Value) → Mem (propose r v) (before .proposes) → Writable (kind.Vote own i r v) → before .acceptor own .round .0 ≤ r .0
+        → Holds s (obeyed (i .0) (kind.Vote own i r v) (cell r r v))
+    votes r v proposed writable low =
+        let next = slot.voting before own (propose r v) in
+        let m = kind.Vote own i r v in
+        let grows : Grows before next = record { promises = λ x m. m; proposes = λ x m. m; votes = λ x m. older m } in
+        obeys m (cell r r v) next (slot.votes (h .sound (i .0)) own (propose r v) proposed low) (λ _. refl) (λ _. refl) (λ _. refl) (λ u. u)
+        (told-more (h .told) (i .0) next grows (acceptor own) m writable (a-vote (rw put-same (newest refl)) refl)
+        (extend (record { packet = packetOf m; switch = own; reads = written-reads m writable; was-sent = newest refl })
+        (λ x there. vote-still (h .told) (i .0) next grows (acceptor own) m writable (h .told .votes i x there))))
+
+  pub acceptor-holds : (p : List ℕ) → Handed w p → Holds s (afterAcceptor w own (acceptorStep s own p t))
+  unfolding acceptorStep players.acceptor saysSend ruled if_then_else_
+  acceptor-holds p handed =
+      step-acts (players.acceptor s own) p t (λ o. Holds s (afterAcceptor w own o)) (refuses p)
+      (λ m. place-elim (λ n. saysSend n ≡ false) (s .instances) m refl refl)
+      (λ allowed m reads index stands.
+      let brings = allowed-tables s own t allowed in
+      let fits = tidy .acceptors own .fitting in
+      let bytes = handed-bytes tidy handed in
+      rule-elim (λ r. Holds s (afterAcceptor w own (ruled p t (withCell t index) r))) own (cellAt t index) m (refuses p 6 refl) (refuses p 17 refl) (refuses p 10 refl)
+      (λ i r e fine low.
+      let at = placed-index (s .instances) i index (sym (ways.prepare own i r .place-so (s .instances)) ∙ ap (place (s .instances)) (sym e) ∙ stands) in
+      let writable = promise-sent (brings .own-few) fits index i r (read-writable p _ bytes (reads ∙ ap Read e)) fine low in
+      at-index i index (at .0) (λ k. Writable (kind.Promise own i r (cellAt t k .«vote_round») (cellAt t k .value)) → k < s .instances → cellAt t k .round .0 ≤ r .0
+      → Holds s (obeyed k (kind.Promise own i r (cellAt t k .«vote_round») (cellAt t k .value)) (cell r (cellAt t k .«vote_round») (cellAt t k .value))))
+      (λ w below rise. promises i below (brings .sized) r (cellAt t (i .0)) (sym (h .acceptors own (i .0) below)) w rise) writable (at .1) (low-round (cellAt t index) r fine low))
+      (λ i r v e fine low.
+      let at = placed-index (s .instances) i index (sym (ways.propose own i r v .place-so (s .instances)) ∙ ap (place (s .instances)) (sym e) ∙ stands) in
+      let writable = vote-sent (brings .own-few) i r v (read-writable p _ bytes (reads ∙ ap Read e)) in
+      at-index i index (at .0) (λ k. k < s .instances → cellAt t k .round .0 ≤ r .0 → Holds s (obeyed k (kind.Vote own i r v) (cell r r v)))
+      (λ below rise. votes i below (brings .sized) r v (met-propose (met h handed (reads ∙ ap Read e))) writable (rw (← h .acceptors own (i .0) below) rise)) (at .1)
+      (low-round (cellAt t index) r fine low)))
+    where
+      at-index : (i : Instance) (index : ℕ) → index ≡ i .0 → (P : ℕ → Type 0) → P (i .0) → P index
+      at-index i index e P = subst P (sym e)

@@ -1,0 +1,89 @@
+-- The primary's step leaves boxes that stand for sound slots: it opens its next instance, and no other.
+-- Assumes nothing.
+use Prim.Native.Nat.{ℕ, _+_, _≤_}
+use mathlib.Core.Path.{_≡_, refl, sym, ap, _∙_, subst}
+use mathlib.Core.Bool.{false}
+use mathlib.Core.List.{List, [], _∷_}
+use native.Mathlib.Omega.{arith}
+use lib.ListN.{getD}
+use Rattle.wire.specs.declared.Message.the-variants as kind
+use Rattle.wire.specs.declared.Reading.the-variants.{Read}
+use Rattle.wire.specs.declared.Value.{Value}
+use Rattle.wire.specs.Ladder.{if_then_else_}
+use Rattle.wire.specs.Packet.{packetOf}
+use Rattle.wire.specs.Rounds.{theInstance, theRound}
+use Rattle.wire.specs.Step.{unchanged, ruled}
+use Rattle.wire.specs.Verdict.{saysSend}
+use Rattle.wire.proofs.Eliminators.{request-elim}
+use Rattle.wire.proofs.Ladder.{if-false}
+use Rattle.wire.proofs.Laws.{Writable, read-writable}
+use Rattle.wire.proofs.Steps.{PlacedBy}
+use Rattle.quorum.specs.declared.Settings.{Settings}
+use Rattle.quorum.specs.Voters.{newest, older}
+use Rattle.primary.specs.Primary.{thePrimary, primary, primaryStep, lent, lentStep}
+use Rattle.primary.proofs.Laws.{lent-is-the-record}
+use Rattle.primary.proofs.Promises.{rule-elim, proposed-writable}
+use Rattle.agreement.specs.Run.{the-primary, sent, Boxes, put, afterPrimary, Handed}
+use Rattle.agreement.proofs.Basics.{put-elim, put-same}
+use Rattle.agreement.proofs.Slot.{propose, Unopened}
+use Rattle.agreement.proofs.Slot.Proposing.{proposing, primary-proposes}
+use Rattle.agreement.proofs.Standing.{a-propose, Told, Holds, Grows, told-more, vote-still, acceptors-same, backups-same, learners-same, all-sound, inside-still, step-acts}
+use Rattle.agreement.proofs.Tidy.{Tidy, handed-bytes}
+
+module _ {s : Settings} {w : Boxes} (tidy : Tidy s w) (h : Holds s w) where
+  abbrev next : ℕ
+  next = tidy .primary .next
+
+  is-next : getD (w .primary) 0 0 ≡ next
+  is-next = ap (λ l. getD l 0 0) (tidy .primary .is)
+
+  refuses : (p : List ℕ) (number : ℕ) → saysSend number ≡ false → Holds s (afterPrimary w (lent (unchanged p (thePrimary next) number)))
+  refuses p number quiet = record {
+    slots = h .slots;
+    acceptors = h .acceptors;
+    backups = h .backups;
+    learners = h .learners;
+    told = subst (λ l. Told l (h .slots)) (sym (if-false (sent the-primary p ∷ w .packets) (w .packets) quiet)) (h .told);
+    sound = h .sound;
+    inside = h .inside;
+    unopened = λ i low. h .unopened i (omega (arith, is-next));
+  }
+
+  -- The boxes after the primary proposed a value.
+  abbrev opened : Value → Boxes
+  opened v = record {
+    primary = (next + 1) ∷ [];
+    acceptor = w .acceptor;
+    backup = w .backup;
+    learner = w .learner;
+    packets = sent the-primary (packetOf (kind.Propose (theInstance next) (theRound 0) v)) ∷ w .packets;
+  }
+
+  opens : (v : Value) → Writable (kind.Propose (theInstance next) (theRound 0) v) → Holds s (opened v)
+  opens v writable =
+      let before = h .slots next in
+      let after = proposing before (propose (theRound 0) v) in
+      let grows : Grows before after = record { promises = λ x m. m; proposes = λ x m. older m; votes = λ x m. m } in
+      record {
+        slots = put (h .slots) next after;
+        acceptors = acceptors-same h next after (λ _. refl);
+        backups = backups-same h next after (λ _. refl);
+        learners = learners-same h next after (λ _. refl);
+        told =
+            told-more (h .told) next after grows the-primary _ writable (a-propose (rw put-same (newest refl)))
+            (λ x m. vote-still (h .told) next after grows the-primary _ writable (h .told .votes (theInstance next) x m));
+        sound = all-sound h next after (primary-proposes (h .sound next) v (h .unopened next (omega (arith, is-next))));
+        inside = inside-still h next after (h .inside next);
+        unopened = put-elim (λ i x. next + 1 ≤ i → Unopened x) (λ low. absurd (omega arith)) (λ i _ low. h .unopened i (omega (arith, is-next)));
+      }
+
+  pub primary-holds : (p : List ℕ) → Handed w p → Holds s (afterPrimary w (lentStep s p (w .primary)))
+  unfolding primaryStep saysSend ruled if_then_else_
+  primary-holds p handed =
+      let held = thePrimary next in
+      subst (λ o. Holds s (afterPrimary w o)) (sym (ap (lentStep s p) (tidy .primary .is) ∙ lent-is-the-record s p next))
+      (step-acts (primary s) p held (λ o. Holds s (afterPrimary w (lent o))) (refuses p)
+      (λ m. request-elim (PlacedBy (λ n. saysSend n ≡ false)) _ _ m (λ _ _ _. tt) refl)
+      (λ _ m reads index _.
+      rule-elim (λ r. Holds s (afterPrimary w (lent (ruled p held (λ c. c) r)))) (s .instances) held m (refuses p 6 refl) (refuses p 17 refl) (refuses p 12 refl)
+      (λ switch v asks _. opens v (proposed-writable held switch v (tidy .primary .fits) (read-writable p _ (handed-bytes tidy handed) (reads ∙ ap Read asks))))))

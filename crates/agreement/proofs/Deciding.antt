@@ -1,0 +1,88 @@
+-- What is decided in the boxes is decided in the slot, and so it is one value; and a decided cell of a learner holds a decided value.
+-- Assumes nothing.
+use Prim.Native.Nat.{ℕ, _<_}
+use mathlib.Core.Path.{_≡_, sym, subst}
+use mathlib.Core.Bool.{true}
+use Rattle.wire.specs.declared.Instance.{Instance}
+use Rattle.wire.specs.declared.Message.the-variants as kind
+use Rattle.wire.specs.declared.Reading.the-variants.{Read}
+use Rattle.wire.specs.declared.Round.{Round}
+use Rattle.wire.specs.declared.Value.{Value}
+use Rattle.wire.specs.Packet.{readPacket}
+use Rattle.quorum.specs.declared.Settings.{Settings}
+use Rattle.quorum.specs.Voters.{Mem}
+use Rattle.quorum.proofs.Laws.{quorums-share}
+use Rattle.quorum.proofs.Voters.{listed, set-of, half-iff}
+use Rattle.tally.specs.Tally.{isDecided, possible}
+use Rattle.tally.proofs.Laws.{possible-inside}
+use Rattle.learner.specs.Tables.{cellAt}
+use Rattle.agreement.specs.Run.{Caller, acceptor, Sent, Boxes, Later, VoteSent, Decided}
+use Rattle.agreement.proofs.Slot.{Slot, vote, LearnerSound}
+use Rattle.agreement.proofs.Slot.Decision.{DecidedIn, one-decision}
+use Rattle.agreement.proofs.Standing.{Knows, a-vote, Holds}
+use Rattle.agreement.proofs.Runs.{stays-sent}
+
+-- the vote that a packet carries was sent by the acceptor that it names
+pub named : {slots : ℕ → Slot} {by : Caller} {a : ℕ} {i : Instance} {r : Round} {v : Value} → Knows slots by (kind.Vote a i r v) → by ≡ acceptor a
+named (a-vote there own) = own
+
+in-slot : {slots : ℕ → Slot} {by : Caller} {a : ℕ} {i : Instance} {r : Round} {v : Value} → Knows slots by (kind.Vote a i r v) → Mem (vote a r v) (slots (i .0) .votes)
+in-slot (a-vote there own) = there
+
+module _ {s : Settings} {w : Boxes} (h : Holds s w) where
+  pub vote-named : (x : Sent) → Mem x (w .packets) → (a : ℕ) (i : Instance) (r : Round) (v : Value)
+      → readPacket (x .packet) ≡ Read (kind.Vote a i r v) → Knows (h .slots) (x .by) (kind.Vote a i r v)
+  vote-named x there a i r v reads =
+      let k = h .told .known x there in
+      let same : k .message ≡ kind.Vote a i r v = cc (k .reads) in
+      subst (Knows (h .slots) (x .by)) same (k .knows)
+
+  vote-there : {a : ℕ} {i : Instance} {r : Round} {v : Value} → VoteSent (w .packets) a i r v → Mem (vote a r v) (h .slots (i .0) .votes)
+  vote-there {a} {i} {r} {v} x =
+      let knows = vote-named _ (x .was-sent) (x .switch) i r v (x .reads) in
+      let own = named knows in
+      let same : x .switch ≡ a = cc in
+      subst (λ n. Mem (vote n r v) (h .slots (i .0) .votes)) same (in-slot knows)
+
+  decided-in : {i : Instance} {v : Value} (d : Decided s w i v) → DecidedIn (s .acceptors) (h .slots (i .0)) (d .round) v
+  decided-in d =
+      let q = set-of (s .acceptors) (d .voters) (d .distinct) (d .are-acceptors) in
+      record { set = q .set; quorum = half-iff (q .names) .0 (d .more-than-half); voted = λ a m. vote-there (d .voted a (q .names .members a .1 m)) }
+
+  -- what is decided has a cell
+  pub decided-inside : {i : Instance} {v : Value} → Decided s w i v → i .0 < s .instances
+  decided-inside {i} d =
+      let q = decided-in d in
+      let a = quorums-share (q .quorum) (q .quorum) in
+      h .inside (i .0) _ (q .voted (a .member) (a .in-first))
+
+  pub decided-once : {i : Instance} {v u : Value} → Decided s w i v → Decided s w i u → v ≡ u
+  decided-once {i} {v} {u} d e = one-decision (h .sound (i .0)) (d .round) (e .round) v u (decided-in d) (decided-in e)
+
+  pub cell-decided : (which : ℕ) (i : Instance) → i .0 < s .instances → possible (s .acceptors) (cellAt (w .learner which) (i .0)) ≡ true
+      → isDecided (s .acceptors) (cellAt (w .learner which) (i .0)) ≡ true → Decided s w i (cellAt (w .learner which) (i .0) .value)
+  unfolding isDecided
+  cell-decided which i below fine decided =
+      let c = cellAt (w .learner which) (i .0) in
+      let votes = subst (LearnerSound (h .slots (i .0) .votes)) (sym (h .learners which (i .0) below)) (h .sound (i .0) .learners which) in
+      let inside = possible-inside (s .acceptors) c fine in
+      let q = listed (s .acceptors) (c .set) inside in
+      record {
+        round = c .round;
+        voters = q .voters;
+        distinct = q .names .distinct;
+        are-acceptors = q .names .known;
+        more-than-half = half-iff (q .names) .1 (record { inside = inside; enough = decided });
+        voted = λ a m. h .told .votes i _ (votes a (q .names .members a .0 m));
+      }
+
+-- What is decided stays so.
+pub stays-decided : {s : Settings} {w u : Boxes} {i : Instance} {v : Value} → Later s w u → Decided s w i v → Decided s u i v
+stays-decided later d = record {
+  round = d .round;
+  voters = d .voters;
+  distinct = d .distinct;
+  are-acceptors = d .are-acceptors;
+  more-than-half = d .more-than-half;
+  voted = λ a m. let x = d .voted a m in record { packet = x .packet; switch = x .switch; reads = x .reads; was-sent = stays-sent _ later (x .was-sent) };
+}

@@ -1,0 +1,209 @@
+-- The example runs are runs, and end as they should: each is computed from the definitions, through the packets' bytes.
+-- Assumes nothing.
+use Prim.Native.Nat.{ℕ, _<_}
+use mathlib.Core.Path.{_≡_, refl, ap, _∙_}
+use mathlib.Core.Bool.{true, false, _&&_, false≢true}
+use mathlib.Core.List.{List, [], _∷_}
+use mathlib.Core.Logic.{⊎-elim}
+use native.Mathlib.Omega.{arith}
+use lib.Count.{ones}
+use lib.Dec.{eqb, lit<}
+use borrow.Author.Tests.{eqb-true, eqb-false, ltb-true}
+use Rattle.numbers.specs.BigEndian.{numberAt}
+use Rattle.wire.specs.declared.Message.{Message}
+use Rattle.wire.specs.declared.Message.the-variants.{Vote}
+use Rattle.wire.specs.declared.Reading.{Reading}
+use Rattle.wire.specs.declared.Reading.the-variants.{Read, Refused}
+use Rattle.wire.specs.declared.Round.{Round}
+use Rattle.wire.specs.declared.Value.{Value}
+use Rattle.wire.specs.Ladder.{if_then_else_, need_or_then_}
+use Rattle.wire.specs.Rounds.{theRound, ownerOf, ownedOr0, ownedNot0, rank, atMost}
+use Rattle.wire.specs.Table.{requestRow, prepareRow, promiseRow, proposeRow, voteRow, tableRow, keepsTable, isVoteBy}
+use Rattle.wire.specs.Message.{messageOf, fieldsOf, whenRequest, whenPrepare, whenPromise, whenPropose, whenVote}
+use Rattle.wire.specs.Packet.{packetLength, fieldsIn, readPacket, packetWith, packetOf}
+use Rattle.wire.specs.Step.{placed, afterReading, afterPlacing, ruled, act, step}
+use Rattle.wire.specs.Values.{null}
+use Rattle.wire.specs.Verdict.{saysSend}
+use Rattle.wire.proofs.Columns.{below-fresh}
+use Rattle.wire.proofs.Eliminators.{request-elim}
+use Rattle.wire.proofs.Ladder.{both-true, or-cases}
+use Rattle.wire.proofs.Laws.{packet-bytes}
+use Rattle.quorum.specs.declared.Settings.{Settings}
+use Rattle.quorum.specs.Settings.{acceptorsAllowed, instancesAllowed, allowed}
+use Rattle.quorum.specs.Quorum.{majority, bit, hasMember, withMember, within, reaches}
+use Rattle.quorum.specs.Voters.{Mem, newest, older}
+use Rattle.primary.specs.Primary as primaries
+use Rattle.acceptor.specs.Acceptor as acceptors
+use Rattle.takeover.specs.Takeover as takeovers
+use Rattle.backup.specs.Backup as backups
+use Rattle.tally.specs.Tally as tallies
+use Rattle.tally.specs.Counting.{whenDecided, added, vote}
+use Rattle.learner.specs.Tables as learners
+use Rattle.learner.specs.Learner as learner
+use Rattle.delivery.specs.Delivery.{delivered}
+use Rattle.delivery.specs.Holes as holes
+use Rattle.agreement.specs.Run.{Caller, Sent, sent, Boxes, freshBoxes, put, Handed, Call, Later, now, and-then, Run, VoteSent, Decided}
+use Rattle.agreement.specs.Run as run
+use Rattle.agreement.specs.Agreement.{Agreed}
+use Rattle.agreement.specs.Examples.{Row, primary-gets, acceptor-gets, backup-starts, backup-gets, learner-gets, zeros, after, answers, sameBytes, wasSent, readsRequest, mayHand, isHanded, played, plays, three, first, v, u, deciding, takingOver, early, taken, leavingAHole, repairing, holed, repaired, splitting, split, Computed}
+use Rattle.agreement.proofs.Basics.{nowhere, extend}
+use Rattle.agreement.proofs.Agreement.{agreement}
+
+-- ---- rows that may be played are a run
+
+same-bytes : (p q : List ℕ) → sameBytes p q ≡ true → p ≡ q
+unfolding sameBytes
+same-bytes [] [] e = refl
+same-bytes [] (b ∷ q) e = absurd (false≢true e)
+same-bytes (a ∷ p) [] e = absurd (false≢true e)
+same-bytes (a ∷ p) (b ∷ q) e =
+    let both = both-true (eqb a b) (sameBytes p q) e in
+    let heads = eqb-true a b (both .0) in
+    let tails = same-bytes p q (both .1) in
+    λ i. heads i ∷ tails i
+
+-- whose packet it was
+record By (p : List ℕ) (packets : List Sent) : Type 0 where
+  by : Caller
+  there : Mem (sent by p) packets
+
+was-sent : (p : List ℕ) (packets : List Sent) → wasSent p packets ≡ true → By p packets
+unfolding wasSent
+was-sent p [] e = absurd (false≢true e)
+was-sent p (x ∷ xs) e =
+    ⊎-elim
+    (λ same. record { by = x .by; there = newest (ap (sent (x .by)) (same-bytes p (x .packet) same)) })
+    (λ rest. let found = was-sent p xs rest in record { by = found .by; there = older (found .there) })
+    (or-cases (sameBytes p (x .packet)) (wasSent p xs) e)
+
+may-hand : (w : Boxes) (m : Message) → mayHand w (packetOf m) ≡ true → Handed w (packetOf m)
+may-hand w m e =
+    ⊎-elim (asks (readPacket (packetOf m)) refl)
+    (λ copied. let found = was-sent (packetOf m) (w .packets) copied in run.Handed.copy (found .by) (found .there))
+    (or-cases (readsRequest (readPacket (packetOf m))) (wasSent (packetOf m) (w .packets)) e)
+  where
+    asks : (r : Reading) → readPacket (packetOf m) ≡ r → readsRequest r ≡ true → Handed w (packetOf m)
+    asks (Refused number) reads = λ asked. absurd (false≢true asked)
+    asks (Read n) reads =
+        request-elim (λ b. b ≡ true → Handed w (packetOf m)) (λ switch value. true) false n
+        (λ switch value is _. run.Handed.request (packet-bytes m) switch value (reads ∙ ap Read is)) (λ asked. absurd (false≢true asked))
+
+row-calls : (s : Settings) (w : Boxes) (row : Row) → isHanded w row ≡ true → Call s w (after s w row)
+row-calls s w (primary-gets m answer) e = run.Call.primary-steps (packetOf m) (may-hand w m e)
+row-calls s w (acceptor-gets own m answer) e = run.Call.acceptor-steps own (packetOf m) (may-hand w m e)
+row-calls s w (backup-starts own i floor v answer) e =
+    let c = both-true _ _ e in
+    let b = both-true _ _ (c .0) in
+    let a = both-true _ _ (b .0) in
+    run.Call.backup-starts own i floor v zeros (record {
+      instance-fits = ltb-true _ _ (a .0);
+      floor-fits = ltb-true _ _ (a .1);
+      high-fits = ltb-true _ _ (b .1);
+      low-fits = ltb-true _ _ (c .1);
+      bytes = below-fresh 256 packetLength 0 (lit< tt);
+    })
+row-calls s w (backup-gets own m answer) e = run.Call.backup-steps own (packetOf m) (may-hand w m e)
+row-calls s w (learner-gets which m answer) e = run.Call.learner-steps which (packetOf m) (may-hand w m e)
+
+rows-run : {s : Settings} {w : Boxes} (x : Boxes) (rows : List Row) → Later s w x → plays s x rows ≡ true → Later s w (played s x rows)
+unfolding plays played
+rows-run x [] before e = before
+rows-run {s} x (row ∷ rows) before e =
+    let a = both-true (isHanded x row && answers s x row) (plays s (after s x row) rows) e in
+    let b = both-true (isHanded x row) (answers s x row) (a .0) in
+    rows-run (after s x row) rows (and-then before (row-calls s x row (b .0))) (a .1)
+
+-- ---- two of three acceptors are more than half
+
+pub two-votes : (w : Boxes) (a b : ℕ) → eqb a b ≡ false → a < 3 → b < 3 → (r : Round) (x : Value) → VoteSent (w .packets) a first r x → VoteSent (w .packets) b first r x
+    → Decided three w first x
+two-votes w a b differ known-a known-b r x voted-a voted-b = record {
+  round = r;
+  voters = a ∷ b ∷ [];
+  distinct = (not-doubled, (nowhere, tt));
+  are-acceptors = extend known-a (extend known-b (λ _. nowhere));
+  more-than-half = lit< tt;
+  voted = extend voted-a (extend voted-b (λ _. nowhere));
+}
+  where
+    not-doubled : Mem a (b ∷ []) → ⊥
+    not-doubled (newest e) = eqb-false a b differ e
+    not-doubled (older m) = nowhere m
+
+-- ---- the examples, computed
+
+pub computed : Computed
+unfolding ones numberAt if_then_else_ need_or_then_ ownerOf ownedOr0 ownedNot0 rank atMost requestRow prepareRow promiseRow proposeRow voteRow tableRow keepsTable isVoteBy
+    messageOf fieldsOf whenRequest whenPrepare whenPromise whenPropose whenVote fieldsIn readPacket packetWith packetOf placed afterReading afterPlacing ruled act step saysSend
+    acceptorsAllowed instancesAllowed allowed majority bit hasMember withMember within reaches put sameBytes wasSent plays played
+    primaries.possible primaries.rule primaries.primaryStep primaries.lentStep
+    acceptors.possible acceptors.obeying acceptors.rule acceptors.acceptorAllowed acceptors.place acceptors.acceptor acceptors.acceptorStep
+    takeovers.isFresh takeovers.phaseFits takeovers.isStarted takeovers.possible takeovers.nextRound takeovers.start takeovers.counting takeovers.chosen takeovers.whenMajority takeovers.promise
+    takeovers.rule backups.ownAllowed backups.sizesAllowed backups.backupAllowed backups.backup backups.backupStep backups.backupStart
+    tallies.isDecided tallies.isFresh tallies.isHeard tallies.possible whenDecided added vote learners.sizesAllowed learner.rule learner.learner learner.learnerStep
+    learner.told learner.answerAt learner.answer learners.cellsFrom learners.allPossible delivered holes.decidedEndFrom holes.isHole holes.firstHoleFrom holes.hole
+computed = record {
+  deciding-plays = refl;
+  first-vote = record { packet = packetOf (Vote 0 first (theRound 0) v); switch = 0; reads = refl; was-sent = older (newest refl) };
+  second-vote = record { packet = packetOf (Vote 1 first (theRound 0) v); switch = 1; reads = refl; was-sent = newest refl };
+  taking-over-plays = refl;
+  old-votes-heard = refl;
+  new-votes-heard = refl;
+  no-votes-heard = refl;
+  leaving-a-hole-plays = refl;
+  the-hole = refl;
+  repairing-plays = refl;
+  null-said = refl;
+  no-hole-left = refl;
+  both-delivered = refl;
+  splitting-plays = refl;
+  the-other-said = refl;
+  one-vote = record {
+    packet = packetOf (Vote 0 first (theRound 0) v);
+    switch = 0;
+    reads = refl;
+    was-sent = older (older (older (older (older (older (newest refl))))));
+  };
+}
+
+-- ---- and what the theorem says of them
+
+early-run : Run three early
+early-run = rows-run (freshBoxes 2) deciding now (computed .deciding-plays)
+
+later-taken : Later three early taken
+later-taken = rows-run early takingOver now (computed .taking-over-plays)
+
+pub taken-run : Run three taken
+taken-run = rows-run early takingOver early-run (computed .taking-over-plays)
+
+pub repaired-run : Run three repaired
+repaired-run = rows-run holed repairing (rows-run (freshBoxes 2) leavingAHole now (computed .leaving-a-hole-plays)) (computed .repairing-plays)
+
+three-allowed : allowed three ≡ true
+unfolding acceptorsAllowed instancesAllowed allowed
+three-allowed = refl
+
+-- Decided before the takeover, and so afterwards, whatever the backup had in mind.
+pub v-decided-early : Decided three early first v
+v-decided-early = two-votes early 0 1 refl (lit< tt) (lit< tt) (theRound 0) v (computed .first-vote) (computed .second-vote)
+
+pub v-still-decided : Agreed three taken first v
+v-still-decided = agreement three three-allowed .decided-once early-run later-taken first v v-decided-early
+
+-- The null value is decided.
+pub null-decided : Decided three repaired first null
+null-decided = agreement three three-allowed .said-is-decided repaired-run 0 first null (computed .null-said)
+
+-- The other value is decided where one acceptor voted for v, and so v is not.
+pub split-run : Run three split
+split-run = rows-run (freshBoxes 2) splitting now (computed .splitting-plays)
+
+pub other-decided : Decided three split first u
+other-decided = agreement three three-allowed .said-is-decided split-run 0 first u (computed .the-other-said)
+
+pub one-vote-does-not-decide : Decided three split first v → ⊥
+one-vote-does-not-decide d =
+    let same : v ≡ u = agreement three three-allowed .decided-once split-run now first u other-decided .alone v d in
+    let low : _≡_ {A = ℕ} 0x2a 0x2b = ap (λ (x : Value). x .low) same in
+    omega arith

@@ -1,0 +1,13 @@
+pub mod Basics
+pub mod Slot
+pub mod Tidy
+pub mod Standing
+pub mod Calls
+pub mod Runs
+pub mod Saying
+pub mod Deciding
+pub mod Delivering
+pub mod Refusals
+pub mod Agreement
+pub mod Examples
+pub mod Slips

@@ -1,0 +1,194 @@
+-- When boxes stand for slots, one for every instance number: each cell inside the lent tables is its slot's, and each packet sent reads as a message that
+-- its slot knows. Of the cells of slots beyond the tables nothing is said. N stands in this bridge and in the calls that keep it, and not in the slots.
+-- Assumes nothing.
+use Prim.Native.Nat.{ℕ, _≤_, _<_}
+use mathlib.Core.Path.{_≡_, refl, sym, _∙_, subst}
+use mathlib.Core.Bool.{true, false}
+use mathlib.Core.List.{List, _∷_}
+use native.Mathlib.Omega.{arith}
+use lib.ListN.{getD}
+use Rattle.wire.specs.declared.Instance.{Instance}
+use Rattle.wire.specs.declared.Message.{Message}
+use Rattle.wire.specs.declared.Message.the-variants as kind
+use Rattle.wire.specs.declared.Place.the-variants.{At}
+use Rattle.wire.specs.declared.Reading.the-variants.{Read}
+use Rattle.wire.specs.declared.Round.{Round}
+use Rattle.wire.specs.declared.Value.{Value}
+use Rattle.wire.specs.Packet.{readPacket, packetOf}
+use Rattle.wire.specs.Rounds.{theInstance}
+use Rattle.wire.specs.Step.{Outcome, unchanged, Player, ruled, step}
+use Rattle.wire.specs.Verdict.{saysSend}
+use Rattle.wire.proofs.Laws.{Writable, RefusedBy, reader-quiet, written-reads}
+use Rattle.wire.proofs.Steps.{PlacedBy, step-elim}
+use Rattle.quorum.specs.declared.Settings.{Settings}
+use Rattle.quorum.specs.Voters.{Mem, older}
+use Rattle.acceptor.specs.Acceptor as acceptors
+use Rattle.backup.specs.Backup as backups
+use Rattle.learner.specs.Tables as learners
+use Rattle.agreement.specs.Run.{Caller, acceptor, Sent, sent, Boxes, put, Handed, VoteSent}
+use Rattle.agreement.specs.Run as run
+use Rattle.agreement.proofs.Basics.{extend, put-elim, put-all, put-same, put-other}
+use Rattle.agreement.proofs.Slot.{Slot, Promise, Propose, Vote, promise, propose, vote, Sound, Unopened}
+
+-- ---- packets and slots
+
+-- A message that was sent by that caller stands in its slot.
+pub data Knows (slots : ℕ → Slot) (by : Caller) : Message → Type 0 where
+  a-prepare : {i : Instance} {r : Round} → Knows slots by (kind.Prepare i r)
+  a-promise : {a : ℕ} {i : Instance} {r b : Round} {v : Value} → Mem (promise a r b v) (slots (i .0) .promises) → Knows slots by (kind.Promise a i r b v)
+  a-propose : {i : Instance} {r : Round} {v : Value} → Mem (propose r v) (slots (i .0) .proposes) → Knows slots by (kind.Propose i r v)
+  a-vote : {a : ℕ} {i : Instance} {r : Round} {v : Value} → Mem (vote a r v) (slots (i .0) .votes) → by ≡ acceptor a → Knows slots by (kind.Vote a i r v)
+
+-- A packet reads as a message that its slot knows.
+pub record Known (slots : ℕ → Slot) (x : Sent) : Type 0 where
+  pub message : Message
+  pub reads : readPacket (x .packet) ≡ Read message
+  pub knows : Knows slots (x .by) message
+
+-- Every packet sent is known, and every vote of a slot was sent in a packet, by its acceptor's call.
+pub record Told (packets : List Sent) (slots : ℕ → Slot) : Type 0 where
+  pub known : (x : Sent) → Mem x packets → Known slots x
+  pub votes : (i : Instance) (x : Vote) → Mem x (slots (i .0) .votes) → VoteSent packets (x .sender) i (x .round) (x .value)
+
+-- ---- boxes and slots
+
+-- The boxes stand for slots, all of them sound.
+pub record Holds (s : Settings) (w : Boxes) : Type 0 where
+  pub slots : ℕ → Slot
+  pub acceptors : (a i : ℕ) → i < s .instances → acceptors.cellAt (w .acceptor a) i ≡ slots i .acceptor a
+  pub backups : (b i : ℕ) → i < s .instances → backups.cellAt (w .backup b) i ≡ slots i .backup b
+  pub learners : (l i : ℕ) → i < s .instances → learners.cellAt (w .learner l) i ≡ slots i .learner l
+  pub told : Told (w .packets) slots
+  pub sound : (i : ℕ) → Sound (s .acceptors) (slots i)
+  -- what has no cell is not voted for
+  pub inside : (i : ℕ) (x : Vote) → Mem x (slots i .votes) → i < s .instances
+  -- the primary's next instance and those after it have no propose of round 0
+  pub unopened : (i : ℕ) → getD (w .primary) 0 0 ≤ i → Unopened (slots i)
+
+-- ---- what is handed over
+
+-- a request, or a message that its slot knows
+pub data Met (slots : ℕ → Slot) (m : Message) : Type 0 where
+  asked : (switch : ℕ) (value : Value) → m ≡ kind.Request switch value → Met slots m
+  known : (by : Caller) → Knows slots by m → Met slots m
+
+pub met : {s : Settings} {w : Boxes} (h : Holds s w) {p : List ℕ} {m : Message} → Handed w p → readPacket p ≡ Read m → Met (h .slots) m
+met h (run.Handed.request bytes switch value asks) reads = asked switch value (cc)
+met h (run.Handed.malformed bytes unread) reads = let no-way = unread .refuses in let z : _≡_ {A = ℕ} 0 1 = cc in absurd (omega arith)
+met h {m = m} (run.Handed.copy by there) reads =
+    let k = h .told .known _ there in
+    let same : k .message ≡ m = cc (k .reads) in
+    known by (subst (Knows (h .slots) by) same (k .knows))
+
+module _ {slots : ℕ → Slot} {i : Instance} where
+  pub met-promise : {a : ℕ} {r b : Round} {v : Value} → Met slots (kind.Promise a i r b v) → Mem (promise a r b v) (slots (i .0) .promises)
+  met-promise (asked switch value e) = let z : _≡_ {A = ℕ} 0 1 = cc in absurd (omega arith)
+  met-promise (known by (a-promise m)) = m
+
+  pub met-propose : {r : Round} {v : Value} → Met slots (kind.Propose i r v) → Mem (propose r v) (slots (i .0) .proposes)
+  met-propose (asked switch value e) = let z : _≡_ {A = ℕ} 0 1 = cc in absurd (omega arith)
+  met-propose (known by (a-propose m)) = m
+
+  pub met-vote : {a : ℕ} {r : Round} {v : Value} → Met slots (kind.Vote a i r v) → Mem (vote a r v) (slots (i .0) .votes)
+  met-vote (asked switch value e) = let z : _≡_ {A = ℕ} 0 1 = cc in absurd (omega arith)
+  met-vote (known by (a-vote m own)) = m
+
+-- ---- one slot moves
+
+-- What was sent about an instance stays so.
+pub record Grows (before after : Slot) : Type 0 where
+  pub promises : (x : Promise) → Mem x (before .promises) → Mem x (after .promises)
+  pub proposes : (x : Propose) → Mem x (before .proposes) → Mem x (after .proposes)
+  pub votes : (x : Vote) → Mem x (before .votes) → Mem x (after .votes)
+
+module _ {packets : List Sent} {slots : ℕ → Slot} (told : Told packets slots) (j : ℕ) (next : Slot) (grows : Grows (slots j) next) where
+  abbrev after : ℕ → Slot
+  after = put slots j next
+
+  -- what stood in a slot's list stands there
+  still : {A : Type 0} (list : Slot → List A) → ((x : A) → Mem x (list (slots j)) → Mem x (list next)) → (n : ℕ) (x : A) → Mem x (list (slots n)) → Mem x (list (after n))
+  still list up n x = put-elim (λ k (y : Slot). Mem x (list (slots k)) → Mem x (list y)) (up x) (λ _ _ m. m) n
+
+  knows-more : {by : Caller} {m : Message} → Knows slots by m → Knows after by m
+  knows-more a-prepare = a-prepare
+  knows-more (a-promise {i = i} m) = a-promise (still (λ (x : Slot). x .promises) (grows .promises) (i .0) _ m)
+  knows-more (a-propose {i = i} m) = a-propose (still (λ (x : Slot). x .proposes) (grows .proposes) (i .0) _ m)
+  knows-more (a-vote {i = i} m own) = a-vote (still (λ (x : Slot). x .votes) (grows .votes) (i .0) _ m) own
+
+  known-still : (x : Sent) → Mem x packets → Known after x
+  known-still x there = let k = told .known x there in record { message = k .message; reads = k .reads; knows = knows-more (k .knows) }
+
+  -- a call that sends nothing
+  pub told-same : ((x : Vote) → Mem x (next .votes) → Mem x (slots j .votes)) → Told packets after
+  told-same no-more = record {
+    known = known-still;
+    votes = λ i x.
+        put-elim (λ n (y : Slot). Mem x (y .votes) → VoteSent packets (x .sender) (theInstance n) (x .round) (x .value))
+        (λ m. told .votes (theInstance j) x (no-more x m)) (λ n _. told .votes (theInstance n) x) (i .0);
+  }
+
+  module _ (by : Caller) (m : Message) (writable : Writable m) where
+    abbrev more : List Sent
+    more = sent by (packetOf m) ∷ packets
+
+    pub vote-still : {a : ℕ} {i : Instance} {r : Round} {v : Value} → VoteSent packets a i r v → VoteSent more a i r v
+    vote-still x = record { packet = x .packet; switch = x .switch; reads = x .reads; was-sent = older (x .was-sent) }
+
+    -- a call that sends a message
+    pub told-more : Knows after by m → ((x : Vote) → Mem x (next .votes) → VoteSent more (x .sender) (theInstance j) (x .round) (x .value)) → Told more after
+    told-more knows votes-there = record {
+      known = extend (record { message = m; reads = written-reads m writable; knows = knows }) known-still;
+      votes = λ i x.
+          put-elim (λ n (y : Slot). Mem x (y .votes) → VoteSent more (x .sender) (theInstance n) (x .round) (x .value)) (votes-there x)
+          (λ n _ there. vote-still (told .votes (theInstance n) x there)) (i .0);
+    }
+
+-- the cells of one kind of player
+module _ (N : ℕ) {Tables Cell : Type 0} (cellAt : Tables → ℕ → Cell) (cells : Slot → ℕ → Cell) (slots : ℕ → Slot) (tables : ℕ → Tables)
+    (stand : (a i : ℕ) → i < N → cellAt (tables a) i ≡ cells (slots i) a) (j : ℕ) (next : Slot) where
+  -- those that the call does not touch
+  pub cells-same : ((a : ℕ) → cells next a ≡ cells (slots j) a) → (a i : ℕ) → i < N → cellAt (tables a) i ≡ cells (put slots j next i) a
+  cells-same same a = put-elim (λ i x. i < N → cellAt (tables a) i ≡ cells x a) (λ below. stand a j below ∙ sym (same a)) (λ i _. stand a i)
+
+  -- those of the caller's kind
+  pub cells-moved : (own : ℕ) (t : Tables) (c : Cell) → ((a : ℕ) → cells next a ≡ put (cells (slots j)) own c a) → cellAt t j ≡ c
+      → ((i : ℕ) → (j ≡ i → ⊥) → cellAt t i ≡ cellAt (tables own) i) → (a i : ℕ) → i < N → cellAt (put tables own t a) i ≡ cells (put slots j next i) a
+  cells-moved own t c is there apart =
+      put-elim (λ a u. (i : ℕ) → i < N → cellAt u i ≡ cells (put slots j next i) a)
+      (put-elim (λ i x. i < N → cellAt t i ≡ cells x own) (λ _. there ∙ sym (is own ∙ put-same (cells (slots j)) own c)) (λ i differs below. apart i differs ∙ stand own i below))
+      (λ a other. put-elim (λ i x. i < N → cellAt (tables a) i ≡ cells x a) (λ below. stand a j below ∙ sym (is a ∙ put-other (cells (slots j)) own c a other)) (λ i _. stand a i))
+
+-- what stays where one slot moves
+module _ {s : Settings} {w : Boxes} (h : Holds s w) (j : ℕ) (next : Slot) where
+  pub acceptors-same : ((a : ℕ) → next .acceptor a ≡ h .slots j .acceptor a) → (a i : ℕ) → i < s .instances
+      → acceptors.cellAt (w .acceptor a) i ≡ put (h .slots) j next i .acceptor a
+  acceptors-same = cells-same (s .instances) acceptors.cellAt (λ (x : Slot). x .acceptor) (h .slots) (w .acceptor) (h .acceptors) j next
+
+  pub backups-same : ((b : ℕ) → next .backup b ≡ h .slots j .backup b) → (b i : ℕ) → i < s .instances
+      → backups.cellAt (w .backup b) i ≡ put (h .slots) j next i .backup b
+  backups-same = cells-same (s .instances) backups.cellAt (λ (x : Slot). x .backup) (h .slots) (w .backup) (h .backups) j next
+
+  pub learners-same : ((l : ℕ) → next .learner l ≡ h .slots j .learner l) → (l i : ℕ) → i < s .instances
+      → learners.cellAt (w .learner l) i ≡ put (h .slots) j next i .learner l
+  learners-same = cells-same (s .instances) learners.cellAt (λ (x : Slot). x .learner) (h .slots) (w .learner) (h .learners) j next
+
+  pub all-sound : Sound (s .acceptors) next → (i : ℕ) → Sound (s .acceptors) (put (h .slots) j next i)
+  all-sound new = put-all (λ _ x. Sound (s .acceptors) x) new (h .sound)
+
+  pub inside-still : ((x : Vote) → Mem x (next .votes) → j < s .instances) → (i : ℕ) (x : Vote) → Mem x (put (h .slots) j next i .votes) → i < s .instances
+  inside-still new = put-all (λ i (y : Slot). (x : Vote) → Mem x (y .votes) → i < s .instances) new (h .inside)
+
+  pub unopened-still : (Unopened (h .slots j) → Unopened next) → (i : ℕ) → getD (w .primary) 0 0 ≤ i → Unopened (put (h .slots) j next i)
+  unopened-still new = put-all (λ i x. getD (w .primary) 0 0 ≤ i → Unopened x) (λ low. new (h .unopened j low)) (h .unopened)
+
+-- ---- a step, by whether it rules
+
+module _ {Tables Cell : Type 0} (player : Player Tables Cell) (packet : List ℕ) (tables : Tables) (Q : Outcome Tables → Type 0) where
+  pub step-acts : ((number : ℕ) → saysSend number ≡ false → Q (unchanged packet tables number)) → ((m : Message) → PlacedBy (λ n. saysSend n ≡ false) (player .place m))
+      → (player .allowed tables ≡ true → (m : Message) → readPacket packet ≡ Read m → (index : ℕ) → player .place m ≡ At index
+      → Q (ruled packet tables (player .withCell tables index) (player .rule (player .cellAt tables index) m)))
+      → Q (step player packet tables)
+  unfolding saysSend
+  step-acts refuses places rules =
+      step-elim player packet tables Q (refuses 7 refl) (λ number e. refuses number (subst (RefusedBy (λ n. saysSend n ≡ false)) e (reader-quiet packet)))
+      (λ m _ number e. refuses number (subst (PlacedBy (λ n. saysSend n ≡ false)) e (places m))) rules

@@ -1,0 +1,4 @@
+pub mod Run
+pub mod Agreement
+pub mod Examples
+pub mod Slips
