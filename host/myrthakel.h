@@ -20,19 +20,25 @@
 extern "C" {
 #endif
 
-/* The mark "none" among rounds: a fresh acceptor's vote round. */
+/* The mark "none" among rounds: a fresh acceptor's vote round, a fresh learner's round. */
 #define MYRTHAKEL_NONE UINT32_C(4294967295)
 
 #define MYRTHAKEL_PACKET_LENGTH 36
 
-/* Verdicts: what to do with the packet as the call left it. */
+/* A delivered value, and a table saved for N instances, in bytes. */
+#define MYRTHAKEL_VALUE_LENGTH 16
+#define MYRTHAKEL_SAVED_LENGTH(instances) (8 + 21 * (size_t)(instances))
+
+/* Verdicts: what to do with the packet as the call left it. The last three are for calls without a packet: done; nothing to tell. */
 enum {
     MYRTHAKEL_TO_ACCEPTORS = 101,
     MYRTHAKEL_TO_LEADER = 102,
     MYRTHAKEL_TO_LEARNERS = 103,
     MYRTHAKEL_HOLD = 104,
     MYRTHAKEL_DECIDED = 105,
-    MYRTHAKEL_DONE = 106
+    MYRTHAKEL_DONE = 106,
+    MYRTHAKEL_NOT_YET = 107,
+    MYRTHAKEL_NO_HOLE = 108
 };
 
 /* Refusals, in the paper's numbers. */
@@ -104,6 +110,68 @@ uint32_t myrthakel_backup_step(uint32_t acceptors, uint32_t instances, uint32_t 
                                uint32_t *best_vote_rounds, size_t best_vote_rounds_length,
                                uint64_t *best_values, size_t best_values_length,
                                uint64_t *own_values, size_t own_values_length);
+
+/*
+ * A learner. Tables, for all its calls: N rounds (fresh none), N sets of voters (bit i for acceptor i; fresh 0) and 2N numbers of values (fresh 0).
+ *
+ * Reads a vote from the packet, which it never writes. The vote is held, or decides its instance; the cell of that instance changes alone. Refusals: 7,
+ * 1 to 5, 6, 8, 9, 17, 14, 10, 13, 15.
+ */
+uint32_t myrthakel_learner_step(uint32_t acceptors, uint32_t instances,
+                                const uint8_t *packet, size_t packet_length,
+                                uint32_t *rounds, size_t rounds_length,
+                                uint8_t *sets, size_t sets_length,
+                                uint64_t *values, size_t values_length);
+
+/*
+ * What a learner says of an instance: done, with its value in the two numbers lent, or not yet. Only a value that is told is written over them. Refusals:
+ * 7, 8, 17.
+ */
+uint32_t myrthakel_learner_answer(uint32_t acceptors, uint32_t instances, uint32_t instance,
+                                  const uint32_t *rounds, size_t rounds_length,
+                                  const uint8_t *sets, size_t sets_length,
+                                  const uint64_t *values, size_t values_length,
+                                  uint64_t *value_high, uint64_t *value_low);
+
+/*
+ * The delivered list: the values of instances 0, 1, .. before the first undecided one go to the front of a buffer of 16N bytes, the rest of which stays,
+ * and their count to the number lent. Looks at every cell. Refusals: 7, 1, 17.
+ */
+uint32_t myrthakel_learner_deliver(uint32_t acceptors, uint32_t instances,
+                                   const uint32_t *rounds, size_t rounds_length,
+                                   const uint8_t *sets, size_t sets_length,
+                                   const uint64_t *values, size_t values_length,
+                                   uint8_t *buffer, size_t buffer_length,
+                                   uint32_t *count);
+
+/*
+ * The first hole, an undecided instance below the highest decided one: done, with its number in the one lent, or no hole. Looks at every cell. Refusals:
+ * 7, 17.
+ */
+uint32_t myrthakel_learner_first_hole(uint32_t acceptors, uint32_t instances,
+                                      const uint32_t *rounds, size_t rounds_length,
+                                      const uint8_t *sets, size_t sets_length,
+                                      const uint64_t *values, size_t values_length,
+                                      uint32_t *instance);
+
+/*
+ * Writes the tables to a buffer of 8 + 21N bytes: mark "RDT", version, M, N, and the cells. Refusals: 7, 1, 17.
+ */
+uint32_t myrthakel_learner_save(uint32_t acceptors, uint32_t instances,
+                                const uint32_t *rounds, size_t rounds_length,
+                                const uint8_t *sets, size_t sets_length,
+                                const uint64_t *values, size_t values_length,
+                                uint8_t *buffer, size_t buffer_length);
+
+/*
+ * Reads saved bytes over the tables, whose cells are replaced whatever they hold; every saved cell is judged before the first is stored. Refusals: 7, 1, 2,
+ * 3, 7 (M or N saved are others), 1 (of the whole length), 17.
+ */
+uint32_t myrthakel_learner_read_saved(uint32_t acceptors, uint32_t instances,
+                                      const uint8_t *saved, size_t saved_length,
+                                      uint32_t *rounds, size_t rounds_length,
+                                      uint8_t *sets, size_t sets_length,
+                                      uint64_t *values, size_t values_length);
 
 #ifdef __cplusplus
 }
