@@ -1,0 +1,656 @@
+// The bench: one depot with M = 3 and N = 1,024, all players fresh, driven by lines of standard input. A line is read first and handled after, so that the
+// tables pass through the handling alone: each function that passes on many tables is dear to check.
+ghost use mathlib.Core.Path.{_≡_};
+ghost use Rattle.bench.specs.Bench.{freshVoteRounds};
+use libc::STDIN_FILENO;
+use libc::STDOUT_FILENO;
+use wire::Value;
+use wire::Verdict;
+
+const ACCEPTORS: u32 = 3;
+
+const INSTANCES: u32 = 1024;
+
+// What of the chunk last read is still to be taken.
+struct Input {
+    from: usize,
+    until: usize,
+}
+
+enum Taken {
+    Byte(u8, Input),
+    End,
+}
+
+enum Next {
+    // A line's length, 128 where it is longer than any good line, and the input after it.
+    Line(usize, Input),
+    End,
+}
+
+// A decimal number and the place after it.
+enum Decimal {
+    Number(u32, usize),
+    Bad,
+}
+
+// What a line asks for. The bytes of a packet stand in the buffer that was lent with the line.
+enum Command {
+    Primary,
+    Acceptor(u32),
+    Backup(u32),
+    Learner,
+    Start {
+        own: u32,
+        instance: u32,
+        floor: u32,
+        value: Value,
+    },
+    Bad,
+}
+
+// ---- lines of the input
+
+// Reads once: how many bytes of the chunk are new, 0 at the end of the input.
+fn refill(chunk: &mut [u8; 4096]) -> usize {
+    let got = libc::read(STDIN_FILENO, chunk);
+    if got <= 0 {
+        return 0;
+    }
+    io::count(got, chunk)
+}
+
+fn byte_at(chunk: &[u8; 4096], at: usize) -> u8 {
+    if at < 4096 { chunk[at] } else { 10 }
+}
+
+// One byte of the input, by a read where the chunk is used up.
+fn next_byte(input: Input, chunk: &mut [u8; 4096]) -> Taken {
+    let from = input.from;
+    let until = input.until;
+    if from < until {
+        return Taken::Byte(
+            byte_at(chunk, from),
+            Input {
+                from: from + 1,
+                until,
+            },
+        );
+    }
+    let count = refill(chunk);
+    if count == 0 {
+        return Taken::End;
+    }
+    Taken::Byte(
+        byte_at(chunk, 0),
+        Input {
+            from: 1,
+            until: count,
+        },
+    )
+}
+
+// The byte is kept while there is room.
+fn keep(line: &mut [u8; 128], length: usize, byte: u8) -> usize {
+    if 128 <= length {
+        return length;
+    }
+    line[length] = byte;
+    length + 1
+}
+
+// A proved loop has to end, and nothing says that the input does: the loop counts its turns down from a number that no run uses up. A line ends at its
+// newline, or at the end of the input if anything stands before that.
+fn next_line(start: Input, chunk: &mut [u8; 4096], line: &mut [u8; 128]) -> Next {
+    let mut input = start;
+    let mut length: usize = 0;
+    let mut turns = u64::MAX;
+    while 0 < turns {
+        turns -= 1;
+        let taken = next_byte(input, chunk);
+        let Taken::Byte(byte, rest) = taken else {
+            break;
+        };
+        input = rest;
+        if byte == 10 {
+            return Next::Line(length, input);
+        }
+        length = keep(line, length, byte);
+    }
+    if length == 0 {
+        return Next::End;
+    }
+    Next::Line(length, input)
+}
+
+// ---- what a line says
+
+fn line_byte(line: &[u8], at: usize) -> u8 {
+    if at < line.len() { line[at] } else { 0 }
+}
+
+// A hex digit's number, of either case; 16 for any other byte.
+fn digit(byte: u8) -> u8 {
+    if byte < b'0' {
+        return 16;
+    }
+    if byte <= b'9' {
+        return byte - b'0';
+    }
+    if byte < b'A' {
+        return 16;
+    }
+    if byte <= b'F' {
+        return byte - b'A' + 10;
+    }
+    if byte < b'a' {
+        return 16;
+    }
+    if byte <= b'f' {
+        return byte - b'a' + 10;
+    }
+    16
+}
+
+// The bytes that the rest of the line stands for, two hex digits each.
+fn take_hex(line: &[u8], from: usize, bytes: &mut [u8]) -> bool {
+    let mut place = from;
+    for index in 0..bytes.len() {
+        if line.len() < 2 {
+            return false;
+        }
+        if line.len() - 2 < place {
+            return false;
+        }
+        let high = digit(line_byte(line, place));
+        let low = digit(line_byte(line, place + 1));
+        if 16 <= high {
+            return false;
+        }
+        if 16 <= low {
+            return false;
+        }
+        bytes[index] = high * 16 + low;
+        place += 2;
+    }
+    place == line.len()
+}
+
+// One to ten decimal digits, at most 4,294,967,295, and then a space.
+fn take_decimal(line: &[u8], from: usize) -> Decimal {
+    let mut number: u64 = 0;
+    let mut place = from;
+    for digits in 0..11usize {
+        if line.len() <= place {
+            return Decimal::Bad;
+        }
+        if 4294967295 < number {
+            return Decimal::Bad;
+        }
+        let byte = line_byte(line, place);
+        place += 1;
+        if byte == b' ' {
+            return decimal_of(number, digits, place);
+        }
+        let value = digit(byte);
+        if 10 <= value {
+            return Decimal::Bad;
+        }
+        number = number * 10 + (value as u64);
+    }
+    Decimal::Bad
+}
+
+fn decimal_of(number: u64, digits: usize, after: usize) -> Decimal {
+    if digits == 0 {
+        return Decimal::Bad;
+    }
+    if 4294967295 < number {
+        return Decimal::Bad;
+    }
+    Decimal::Number(number as u32, after)
+}
+
+// `s1 INST FLOOR VALUE`
+fn start_of(line: &[u8], own: u32) -> Command {
+    if (own < 1) | (3 < own) | (line_byte(line, 2) != b' ') {
+        return Command::Bad;
+    }
+    let Decimal::Number(instance, floor_place) = take_decimal(line, 3) else {
+        return Command::Bad;
+    };
+    let Decimal::Number(floor, value_place) = take_decimal(line, floor_place) else {
+        return Command::Bad;
+    };
+    let mut bytes = [0u8; 16];
+    if !take_hex(line, value_place, &mut bytes) {
+        return Command::Bad;
+    }
+    let high = numbers::read_u64(&bytes, 0);
+    let low = numbers::read_u64(&bytes, 8);
+    Command::Start {
+        own,
+        instance,
+        floor,
+        value: Value { high, low },
+    }
+}
+
+fn player_of(letter: u8, number: u32) -> Command {
+    if letter == b'p' {
+        return Command::Primary;
+    }
+    if letter == b'l' {
+        return Command::Learner;
+    }
+    if (letter == b'a') & (number <= 2) {
+        return Command::Acceptor(number);
+    }
+    if (letter == b'b') & (1 <= number) & (number <= 3) {
+        return Command::Backup(number);
+    }
+    Command::Bad
+}
+
+// A space, and 72 hex digits.
+fn take_packet(line: &[u8], space: usize, from: usize, packet: &mut [u8]) -> bool {
+    if line_byte(line, space) != b' ' {
+        return false;
+    }
+    take_hex(line, from, packet)
+}
+
+// A player, a space, 72 hex digits; or a start.
+fn command_of(line: &[u8], packet: &mut [u8]) -> Command {
+    let letter = line_byte(line, 0);
+    let number = digit(line_byte(line, 1)) as u32;
+    if letter == b's' {
+        return start_of(line, number);
+    }
+    if (letter == b'p') | (letter == b'l') {
+        if !take_packet(line, 1, 2, packet) {
+            return Command::Bad;
+        }
+        return player_of(letter, number);
+    }
+    if !take_packet(line, 2, 3, packet) {
+        return Command::Bad;
+    }
+    player_of(letter, number)
+}
+
+fn command_in(line: &[u8], length: usize, packet: &mut [u8]) -> Command {
+    if line.len() < length {
+        return Command::Bad;
+    }
+    command_of(&line[..length], packet)
+}
+
+// ---- what a line prints
+
+fn print_name(letter: &[u8], number: u32) {
+    io::write_all(STDOUT_FILENO, letter);
+    io::print_decimal(STDOUT_FILENO, number as u64);
+}
+
+fn print_player(command: Command) {
+    match command {
+        Command::Primary => {
+            io::write_all(STDOUT_FILENO, b"p");
+        }
+        Command::Acceptor(number) => print_name(b"a", number),
+        Command::Backup(number) => print_name(b"b", number),
+        Command::Learner => {
+            io::write_all(STDOUT_FILENO, b"l");
+        }
+        Command::Start { own, .. } => print_name(b"s", own),
+        Command::Bad => {}
+    }
+}
+
+fn print_verdict(answer: u32) {
+    if answer == wire::verdict_number(Verdict::ToAcceptors) {
+        io::write_all(STDOUT_FILENO, b" acceptors ");
+        return;
+    }
+    if answer == wire::verdict_number(Verdict::ToLeader) {
+        io::write_all(STDOUT_FILENO, b" leader ");
+        return;
+    }
+    if answer == wire::verdict_number(Verdict::ToLearners) {
+        io::write_all(STDOUT_FILENO, b" learners ");
+        return;
+    }
+    if answer == wire::verdict_number(Verdict::Hold) {
+        io::write_all(STDOUT_FILENO, b" hold ");
+        return;
+    }
+    if answer == wire::verdict_number(Verdict::Decided) {
+        io::write_all(STDOUT_FILENO, b" decided ");
+        return;
+    }
+    io::write_all(STDOUT_FILENO, b" r");
+    io::print_decimal(STDOUT_FILENO, answer as u64);
+    io::write_all(STDOUT_FILENO, b" ");
+}
+
+fn hex_digit(number: u8) -> u8 {
+    if number < 10 {
+        return b'0' + number;
+    }
+    if 15 < number {
+        return b'?';
+    }
+    b'a' + (number - 10)
+}
+
+fn print_packet(packet: &[u8; 36]) {
+    let mut text = [10u8; 73];
+    for index in 0..36usize {
+        let byte = packet[index];
+        text[2 * index] = hex_digit(byte / 16);
+        text[2 * index + 1] = hex_digit(byte % 16);
+    }
+    io::write_all(STDOUT_FILENO, &text);
+}
+
+fn print_line(command: Command, answer: u32, packet: &[u8; 36]) {
+    if let Command::Bad = command {
+        io::write_all(STDOUT_FILENO, b"? bad -\n");
+        return;
+    }
+    print_player(command);
+    print_verdict(answer);
+    print_packet(packet);
+}
+
+// ---- the players: an acceptor's vote rounds are a table of its own, and the other tables of like players are sections of one
+
+// "each of 1,024 cells starts with the never-voted mark"
+fn fresh_vote_rounds() -> [u32; 1024]
+    ensures { λ r. ⌜ r ≡ freshVoteRounds ⌝ }
+{
+    [wire::NONE; 1024]
+}
+
+fn give_to_acceptor(
+    own: u32,
+    packet: &mut [u8],
+    rounds: &mut [u32],
+    vote_rounds: &mut [u32],
+    values: &mut [u64],
+) -> u32 {
+    if 2 < own {
+        return 7;
+    }
+    if rounds.len() != 3072 {
+        return 7;
+    }
+    if values.len() != 6144 {
+        return 7;
+    }
+    let start = (own as usize) * 1024;
+    let end = start + 1024;
+    acceptor::myrthakel_acceptor_step(
+        ACCEPTORS,
+        INSTANCES,
+        own,
+        packet,
+        &mut rounds[start..end],
+        vote_rounds,
+        &mut values[2 * start..2 * end],
+    )
+}
+
+fn give_to_backup(
+    own: u32,
+    packet: &mut [u8],
+    rounds: &mut [u32],
+    phases: &mut [u8],
+    sets: &mut [u8],
+    best_vote_rounds: &mut [u32],
+    best_values: &mut [u64],
+    own_values: &mut [u64],
+) -> u32 {
+    if own < 1 {
+        return 7;
+    }
+    if 3 < own {
+        return 7;
+    }
+    if rounds.len() != 3072 {
+        return 7;
+    }
+    if phases.len() != 3072 {
+        return 7;
+    }
+    if sets.len() != 3072 {
+        return 7;
+    }
+    if best_vote_rounds.len() != 3072 {
+        return 7;
+    }
+    if best_values.len() != 6144 {
+        return 7;
+    }
+    if own_values.len() != 6144 {
+        return 7;
+    }
+    let start = ((own - 1) as usize) * 1024;
+    let end = start + 1024;
+    backup::myrthakel_backup_step(
+        ACCEPTORS,
+        INSTANCES,
+        own,
+        packet,
+        &mut rounds[start..end],
+        &mut phases[start..end],
+        &mut sets[start..end],
+        &mut best_vote_rounds[start..end],
+        &mut best_values[2 * start..2 * end],
+        &mut own_values[2 * start..2 * end],
+    )
+}
+
+fn start_backup(
+    own: u32,
+    instance: u32,
+    floor: u32,
+    value: Value,
+    packet: &mut [u8],
+    rounds: &mut [u32],
+    phases: &mut [u8],
+    sets: &mut [u8],
+    best_vote_rounds: &mut [u32],
+    best_values: &mut [u64],
+    own_values: &mut [u64],
+) -> u32 {
+    if own < 1 {
+        return 7;
+    }
+    if 3 < own {
+        return 7;
+    }
+    if rounds.len() != 3072 {
+        return 7;
+    }
+    if phases.len() != 3072 {
+        return 7;
+    }
+    if sets.len() != 3072 {
+        return 7;
+    }
+    if best_vote_rounds.len() != 3072 {
+        return 7;
+    }
+    if best_values.len() != 6144 {
+        return 7;
+    }
+    if own_values.len() != 6144 {
+        return 7;
+    }
+    let start = ((own - 1) as usize) * 1024;
+    let end = start + 1024;
+    backup::myrthakel_backup_start(
+        ACCEPTORS,
+        INSTANCES,
+        own,
+        instance,
+        floor,
+        value.high,
+        value.low,
+        packet,
+        &mut rounds[start..end],
+        &mut phases[start..end],
+        &mut sets[start..end],
+        &mut best_vote_rounds[start..end],
+        &mut best_values[2 * start..2 * end],
+        &mut own_values[2 * start..2 * end],
+    )
+}
+
+fn give_to_acceptors(
+    own: u32,
+    packet: &mut [u8],
+    rounds: &mut [u32],
+    vote_rounds_0: &mut [u32],
+    vote_rounds_1: &mut [u32],
+    vote_rounds_2: &mut [u32],
+    values: &mut [u64],
+) -> u32 {
+    if own == 0 {
+        return give_to_acceptor(0, packet, rounds, vote_rounds_0, values);
+    }
+    if own == 1 {
+        return give_to_acceptor(1, packet, rounds, vote_rounds_1, values);
+    }
+    give_to_acceptor(own, packet, rounds, vote_rounds_2, values)
+}
+
+// ---- the run
+
+// One line after the other: what it asks for is done, and told in a line.
+fn run(
+    line: &mut [u8; 128],
+    chunk: &mut [u8; 4096],
+    next: &mut [u32; 1],
+    rounds: &mut [u32; 3072],
+    vote_rounds_0: &mut [u32; 1024],
+    vote_rounds_1: &mut [u32; 1024],
+    vote_rounds_2: &mut [u32; 1024],
+    values: &mut [u64; 6144],
+    backup_rounds: &mut [u32; 3072],
+    phases: &mut [u8; 3072],
+    promisers: &mut [u8; 3072],
+    best_vote_rounds: &mut [u32; 3072],
+    best_values: &mut [u64; 6144],
+    own_values: &mut [u64; 6144],
+    learner_rounds: &mut [u32; 1024],
+    voters: &mut [u8; 1024],
+    learner_values: &mut [u64; 2048],
+) {
+    let mut input = Input { from: 0, until: 0 };
+    let mut turns = u64::MAX;
+    while 0 < turns {
+        turns -= 1;
+        let taken = next_line(input, chunk, line);
+        let Next::Line(length, rest) = taken else {
+            return;
+        };
+        input = rest;
+        let mut packet = [0u8; 36];
+        let command = command_in(line, length, &mut packet);
+        let answer = match command {
+            Command::Primary => {
+                primary::myrthakel_primary_step(ACCEPTORS, INSTANCES, &mut packet, next)
+            }
+            Command::Acceptor(own) => give_to_acceptors(
+                own,
+                &mut packet,
+                rounds,
+                vote_rounds_0,
+                vote_rounds_1,
+                vote_rounds_2,
+                values,
+            ),
+            Command::Backup(own) => give_to_backup(
+                own,
+                &mut packet,
+                backup_rounds,
+                phases,
+                promisers,
+                best_vote_rounds,
+                best_values,
+                own_values,
+            ),
+            Command::Learner => learner::myrthakel_learner_step(
+                ACCEPTORS,
+                INSTANCES,
+                &packet,
+                learner_rounds,
+                voters,
+                learner_values,
+            ),
+            Command::Start {
+                own,
+                instance,
+                floor,
+                value,
+            } => start_backup(
+                own,
+                instance,
+                floor,
+                value,
+                &mut packet,
+                backup_rounds,
+                phases,
+                promisers,
+                best_vote_rounds,
+                best_values,
+                own_values,
+            ),
+            Command::Bad => 0,
+        };
+        print_line(command, answer, &packet);
+    }
+}
+
+fn main() {
+    let mut line = [0u8; 128];
+    let mut chunk = [0u8; 4096];
+    let mut next = [0u32; 1];
+    let mut rounds = [0u32; 3072];
+    let mut vote_rounds_0 = fresh_vote_rounds();
+    let mut vote_rounds_1 = fresh_vote_rounds();
+    let mut vote_rounds_2 = fresh_vote_rounds();
+    let mut values = [0u64; 6144];
+    let mut backup_rounds = [0u32; 3072];
+    let mut phases = [0u8; 3072];
+    let mut promisers = [0u8; 3072];
+    let mut best_vote_rounds = [wire::NONE; 3072];
+    let mut best_values = [0u64; 6144];
+    let mut own_values = [0u64; 6144];
+    let mut learner_rounds = [wire::NONE; 1024];
+    let mut voters = [0u8; 1024];
+    let mut learner_values = [0u64; 2048];
+    io::write_all(STDOUT_FILENO, b"player verdict packet\n");
+    run(
+        &mut line,
+        &mut chunk,
+        &mut next,
+        &mut rounds,
+        &mut vote_rounds_0,
+        &mut vote_rounds_1,
+        &mut vote_rounds_2,
+        &mut values,
+        &mut backup_rounds,
+        &mut phases,
+        &mut promisers,
+        &mut best_vote_rounds,
+        &mut best_values,
+        &mut own_values,
+        &mut learner_rounds,
+        &mut voters,
+        &mut learner_values,
+    );
+}
