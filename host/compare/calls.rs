@@ -1,0 +1,232 @@
+//! The archives' calls, declared after the header, over the same tables as the model. What the header lends as const is lent here from something that
+//! may change, so that a write to it would be seen.
+
+use crate::tables::*;
+
+#[rustfmt::skip]
+extern "C" {
+    fn myrthakel_primary_step(acceptors: u32, instances: u32, packet: *mut u8, packet_length: usize, next: *mut u32, next_length: usize) -> u32;
+
+    fn myrthakel_acceptor_step(
+        acceptors: u32, instances: u32, own: u32,
+        packet: *mut u8, packet_length: usize,
+        rounds: *mut u32, rounds_length: usize,
+        vote_rounds: *mut u32, vote_rounds_length: usize,
+        values: *mut u64, values_length: usize,
+    ) -> u32;
+
+    fn myrthakel_backup_start(
+        acceptors: u32, instances: u32, own: u32,
+        instance: u32, floor: u32, value_high: u64, value_low: u64,
+        buffer: *mut u8, buffer_length: usize,
+        rounds: *mut u32, rounds_length: usize,
+        phases: *mut u8, phases_length: usize,
+        sets: *mut u8, sets_length: usize,
+        best_vote_rounds: *mut u32, best_vote_rounds_length: usize,
+        best_values: *mut u64, best_values_length: usize,
+        own_values: *mut u64, own_values_length: usize,
+    ) -> u32;
+
+    fn myrthakel_backup_step(
+        acceptors: u32, instances: u32, own: u32,
+        packet: *mut u8, packet_length: usize,
+        rounds: *mut u32, rounds_length: usize,
+        phases: *mut u8, phases_length: usize,
+        sets: *mut u8, sets_length: usize,
+        best_vote_rounds: *mut u32, best_vote_rounds_length: usize,
+        best_values: *mut u64, best_values_length: usize,
+        own_values: *mut u64, own_values_length: usize,
+    ) -> u32;
+
+    fn myrthakel_learner_step(
+        acceptors: u32, instances: u32,
+        packet: *const u8, packet_length: usize,
+        rounds: *mut u32, rounds_length: usize,
+        sets: *mut u8, sets_length: usize,
+        values: *mut u64, values_length: usize,
+    ) -> u32;
+
+    fn myrthakel_learner_answer(
+        acceptors: u32, instances: u32, instance: u32,
+        rounds: *const u32, rounds_length: usize,
+        sets: *const u8, sets_length: usize,
+        values: *const u64, values_length: usize,
+        value_high: *mut u64, value_low: *mut u64,
+    ) -> u32;
+
+    fn myrthakel_learner_deliver(
+        acceptors: u32, instances: u32,
+        rounds: *const u32, rounds_length: usize,
+        sets: *const u8, sets_length: usize,
+        values: *const u64, values_length: usize,
+        buffer: *mut u8, buffer_length: usize,
+        count: *mut u32,
+    ) -> u32;
+
+    fn myrthakel_learner_first_hole(
+        acceptors: u32, instances: u32,
+        rounds: *const u32, rounds_length: usize,
+        sets: *const u8, sets_length: usize,
+        values: *const u64, values_length: usize,
+        instance: *mut u32,
+    ) -> u32;
+
+    fn myrthakel_learner_save(
+        acceptors: u32, instances: u32,
+        rounds: *const u32, rounds_length: usize,
+        sets: *const u8, sets_length: usize,
+        values: *const u64, values_length: usize,
+        buffer: *mut u8, buffer_length: usize,
+    ) -> u32;
+
+    fn myrthakel_learner_read_saved(
+        acceptors: u32, instances: u32,
+        saved: *const u8, saved_length: usize,
+        rounds: *mut u32, rounds_length: usize,
+        sets: *mut u8, sets_length: usize,
+        values: *mut u64, values_length: usize,
+    ) -> u32;
+}
+
+pub fn primary_step(settings: Settings, packet: &mut [u8], next: &mut [u32]) -> u32 {
+    let Settings { acceptors, instances } = settings;
+    unsafe { myrthakel_primary_step(acceptors, instances, packet.as_mut_ptr(), packet.len(), next.as_mut_ptr(), next.len()) }
+}
+
+#[rustfmt::skip]
+pub fn acceptor_step(settings: Settings, own: u32, packet: &mut [u8], tables: &mut AcceptorTables) -> u32 {
+    let Settings { acceptors, instances } = settings;
+    unsafe {
+        myrthakel_acceptor_step(
+            acceptors, instances, own,
+            packet.as_mut_ptr(), packet.len(),
+            tables.rounds.as_mut_ptr(), tables.rounds.len(),
+            tables.vote_rounds.as_mut_ptr(), tables.vote_rounds.len(),
+            tables.values.as_mut_ptr(), tables.values.len(),
+        )
+    }
+}
+
+#[rustfmt::skip]
+pub fn backup_start(settings: Settings, own: u32, start: Start, buffer: &mut [u8], tables: &mut BackupTables) -> u32 {
+    let Settings { acceptors, instances } = settings;
+    unsafe {
+        myrthakel_backup_start(
+            acceptors, instances, own,
+            start.instance, start.floor, (start.value >> 64) as u64, start.value as u64,
+            buffer.as_mut_ptr(), buffer.len(),
+            tables.rounds.as_mut_ptr(), tables.rounds.len(),
+            tables.phases.as_mut_ptr(), tables.phases.len(),
+            tables.sets.as_mut_ptr(), tables.sets.len(),
+            tables.best_vote_rounds.as_mut_ptr(), tables.best_vote_rounds.len(),
+            tables.best_values.as_mut_ptr(), tables.best_values.len(),
+            tables.own_values.as_mut_ptr(), tables.own_values.len(),
+        )
+    }
+}
+
+#[rustfmt::skip]
+pub fn backup_step(settings: Settings, own: u32, packet: &mut [u8], tables: &mut BackupTables) -> u32 {
+    let Settings { acceptors, instances } = settings;
+    unsafe {
+        myrthakel_backup_step(
+            acceptors, instances, own,
+            packet.as_mut_ptr(), packet.len(),
+            tables.rounds.as_mut_ptr(), tables.rounds.len(),
+            tables.phases.as_mut_ptr(), tables.phases.len(),
+            tables.sets.as_mut_ptr(), tables.sets.len(),
+            tables.best_vote_rounds.as_mut_ptr(), tables.best_vote_rounds.len(),
+            tables.best_values.as_mut_ptr(), tables.best_values.len(),
+            tables.own_values.as_mut_ptr(), tables.own_values.len(),
+        )
+    }
+}
+
+#[rustfmt::skip]
+pub fn learner_step(settings: Settings, packet: &mut [u8], tables: &mut LearnerTables) -> u32 {
+    let Settings { acceptors, instances } = settings;
+    unsafe {
+        myrthakel_learner_step(
+            acceptors, instances,
+            packet.as_mut_ptr(), packet.len(),
+            tables.rounds.as_mut_ptr(), tables.rounds.len(),
+            tables.sets.as_mut_ptr(), tables.sets.len(),
+            tables.values.as_mut_ptr(), tables.values.len(),
+        )
+    }
+}
+
+#[rustfmt::skip]
+pub fn learner_answer(settings: Settings, instance: u32, tables: &mut LearnerTables, value: &mut u128) -> u32 {
+    let Settings { acceptors, instances } = settings;
+    let mut high = (*value >> 64) as u64;
+    let mut low = *value as u64;
+    let answer = unsafe {
+        myrthakel_learner_answer(
+            acceptors, instances, instance,
+            tables.rounds.as_mut_ptr(), tables.rounds.len(),
+            tables.sets.as_mut_ptr(), tables.sets.len(),
+            tables.values.as_mut_ptr(), tables.values.len(),
+            &mut high, &mut low,
+        )
+    };
+    *value = (high as u128) << 64 | low as u128;
+    answer
+}
+
+#[rustfmt::skip]
+pub fn learner_deliver(settings: Settings, tables: &mut LearnerTables, buffer: &mut [u8], count: &mut u32) -> u32 {
+    let Settings { acceptors, instances } = settings;
+    unsafe {
+        myrthakel_learner_deliver(
+            acceptors, instances,
+            tables.rounds.as_mut_ptr(), tables.rounds.len(),
+            tables.sets.as_mut_ptr(), tables.sets.len(),
+            tables.values.as_mut_ptr(), tables.values.len(),
+            buffer.as_mut_ptr(), buffer.len(),
+            count,
+        )
+    }
+}
+
+#[rustfmt::skip]
+pub fn learner_first_hole(settings: Settings, tables: &mut LearnerTables, instance: &mut u32) -> u32 {
+    let Settings { acceptors, instances } = settings;
+    unsafe {
+        myrthakel_learner_first_hole(
+            acceptors, instances,
+            tables.rounds.as_mut_ptr(), tables.rounds.len(),
+            tables.sets.as_mut_ptr(), tables.sets.len(),
+            tables.values.as_mut_ptr(), tables.values.len(),
+            instance,
+        )
+    }
+}
+
+#[rustfmt::skip]
+pub fn learner_save(settings: Settings, tables: &mut LearnerTables, buffer: &mut [u8]) -> u32 {
+    let Settings { acceptors, instances } = settings;
+    unsafe {
+        myrthakel_learner_save(
+            acceptors, instances,
+            tables.rounds.as_mut_ptr(), tables.rounds.len(),
+            tables.sets.as_mut_ptr(), tables.sets.len(),
+            tables.values.as_mut_ptr(), tables.values.len(),
+            buffer.as_mut_ptr(), buffer.len(),
+        )
+    }
+}
+
+#[rustfmt::skip]
+pub fn learner_read_saved(settings: Settings, saved: &mut [u8], tables: &mut LearnerTables) -> u32 {
+    let Settings { acceptors, instances } = settings;
+    unsafe {
+        myrthakel_learner_read_saved(
+            acceptors, instances,
+            saved.as_mut_ptr(), saved.len(),
+            tables.rounds.as_mut_ptr(), tables.rounds.len(),
+            tables.sets.as_mut_ptr(), tables.sets.len(),
+            tables.values.as_mut_ptr(), tables.values.len(),
+        )
+    }
+}

@@ -1,0 +1,368 @@
+//! Runs of all players of one depot over the archives' calls, on a network that loses, doubles, delays and reorders; after every step, demand 3.
+//! Usage: simulate RUNS SEED. The last line is 'N passed, M failed', in runs.
+
+mod borders;
+mod calls;
+mod random;
+mod tables;
+
+use random::Random;
+use std::collections::BTreeMap;
+use std::time::{Duration, Instant};
+use tables::*;
+
+#[global_allocator]
+static MEMORY: borders::Bordered = borders::Bordered;
+
+type Packet = Vec<u8>;
+
+#[derive(Clone, Copy)]
+enum Player {
+    Primary,
+    Acceptor(usize),
+    Backup(usize),
+    Learner(usize),
+}
+
+const BACKUPS: usize = 3;
+const LEARNERS: usize = 2;
+
+/// What a run had in it, so that runs in which nothing happens don't pass for a test.
+#[derive(Default)]
+struct Seen {
+    decision: bool,
+    takeover: bool,
+    null_repair: bool,
+    kept: bool,
+}
+
+struct Run {
+    random: Random,
+    settings: Settings,
+    next: Vec<u32>,
+    acceptors: Vec<AcceptorTables>,
+    backups: Vec<BackupTables>,
+    learners: Vec<LearnerTables>,
+    sent: Vec<Packet>,
+    travelling: Vec<(Player, Packet)>,
+    /// The acceptors that have sent a vote, by instance, round and value.
+    votes: BTreeMap<(usize, u32, u128), u8>,
+    decided: Vec<Option<u128>>,
+    told: Vec<Vec<Option<u128>>>,
+    /// Instances that were a learner's first hole.
+    holes: Vec<Vec<bool>>,
+    /// Rounds in which a backup proposed another value than its own.
+    gave_way: Vec<(usize, u32)>,
+    seen: Seen,
+}
+
+fn number(packet: &[u8]) -> u32 {
+    u32::from_be_bytes([packet[0], packet[1], packet[2], packet[3]])
+}
+
+fn value(packet: &[u8]) -> u128 {
+    packet[20..36].iter().fold(0, |sum, byte| sum << 8 | *byte as u128)
+}
+
+impl Run {
+    fn new(seed: u64) -> Self {
+        let mut random = Random::new(seed);
+        let settings = Settings { acceptors: random.pick(&[3, 3, 5, 7]), instances: 1 + random.below(4) as u32 };
+        let instances = settings.instances as usize;
+        Run {
+            random,
+            settings,
+            next: vec![0],
+            acceptors: vec![AcceptorTables::fresh(instances); settings.acceptors as usize],
+            backups: vec![BackupTables::fresh(instances); BACKUPS],
+            learners: vec![LearnerTables::fresh(instances); LEARNERS],
+            sent: Vec::new(),
+            travelling: Vec::new(),
+            votes: BTreeMap::new(),
+            decided: vec![None; instances],
+            told: vec![vec![None; instances]; LEARNERS],
+            holes: vec![vec![false; instances]; LEARNERS],
+            gave_way: Vec::new(),
+            seen: Seen::default(),
+        }
+    }
+
+    /// A whole run, with its own share of losses, doubles and takeovers.
+    fn go(&mut self) -> Result<(), String> {
+        let (loss, doubling) = (self.random.pick(&[0, 5, 20, 50]), self.random.pick(&[0, 10, 40]));
+        let (takeovers, requests) = (self.random.pick(&[1, 3, 10]), self.random.pick(&[3, 10]));
+        for _ in 0..40 + self.random.below(200) {
+            let chance = self.random.below(100);
+            if chance < takeovers {
+                self.take_over()?;
+            } else if chance < takeovers + requests {
+                self.request()?;
+            } else if chance < takeovers + requests + 3 && !self.sent.is_empty() {
+                self.malformed()?;
+            } else if chance < takeovers + requests + 6 && !self.sent.is_empty() {
+                let packet = self.sent[self.random.below(self.sent.len())].clone();
+                let player = self.any_player();
+                self.hand_over(player, packet)?;
+            } else if !self.travelling.is_empty() {
+                self.arrive(loss, doubling)?;
+            }
+            self.check()?;
+        }
+        self.check_saved()
+    }
+
+    /// Any of the packets that travel arrives, stays to arrive once more, or is lost.
+    fn arrive(&mut self, loss: usize, doubling: usize) -> Result<(), String> {
+        let index = self.random.below(self.travelling.len());
+        let doubled = self.random.chance(doubling);
+        let (player, packet) = if doubled { self.travelling[index].clone() } else { self.travelling.swap_remove(index) };
+        if doubled || !self.random.chance(loss) {
+            self.hand_over(player, packet)?;
+        }
+        Ok(())
+    }
+
+    fn any_player(&mut self) -> Player {
+        match self.random.below(4) {
+            0 => Player::Primary,
+            1 => Player::Acceptor(self.random.below(self.acceptors.len())),
+            2 => Player::Backup(self.random.below(BACKUPS)),
+            _ => Player::Learner(self.random.below(LEARNERS)),
+        }
+    }
+
+    fn not_null(&mut self) -> u128 {
+        let other = 1 + self.random.number() as u128;
+        self.random.pick(&[0x2a, 0x2b, 0x2a << 64, 0x2a << 64 | 0x2b, other])
+    }
+
+    /// Mostly for the primary; another player refuses it.
+    fn request(&mut self) -> Result<u32, String> {
+        let mut packet = b"RDE\0\0\x01\0\x09\0\0\0\0\0\0\0\0\xff\xff\xff\xff".to_vec();
+        packet.extend(self.not_null().to_be_bytes());
+        let player = if self.random.chance(95) { Player::Primary } else { self.any_player() };
+        self.hand_over(player, packet)
+    }
+
+    /// Any backup on any instance, or on a hole with null; now and then one beyond N, a floor near the last round or a buffer of a wrong length.
+    fn take_over(&mut self) -> Result<(), String> {
+        let backup = self.random.below(BACKUPS);
+        let beyond = self.random.chance(3) as usize;
+        let any = self.random.below(self.settings.instances as usize + beyond);
+        let floor = if self.random.chance(3) { NONE - self.random.below(20) as u32 } else { self.random.below(12) as u32 };
+        let any_value = if self.random.chance(20) { 0 } else { self.not_null() };
+        let (instance, value) = match self.holes[0].iter().position(|hole| *hole) {
+            Some(hole) if self.random.chance(50) => (hole, 0),
+            _ => (any, any_value),
+        };
+        let length = if self.random.chance(3) { 35 } else { 36 };
+        let mut buffer = self.random.bytes(length);
+        let start = Start { instance: instance as u32, floor, value };
+        let answer = calls::backup_start(self.settings, backup as u32 + 1, start, &mut buffer, &mut self.backups[backup]);
+        if !matches!(answer, TO_ACCEPTORS | 1 | 8 | 16) {
+            return Err(format!("start of backup {} {:x?} answered {}", backup + 1, start, answer));
+        }
+        self.send(answer, &buffer);
+        Ok(())
+    }
+
+    /// Breaks a packet sent earlier in a way that no kind sent by a player allows, and hands it to anyone.
+    fn malformed(&mut self) -> Result<(), String> {
+        let mut packet = self.sent[self.random.below(self.sent.len())].clone();
+        let nobodys_round = (4 + 4 * self.random.below((1 << 30) - 1) as u32).to_be_bytes();
+        match self.random.below(8) {
+            0 => packet.truncate(self.random.below(36)),
+            1 => packet.push(0),
+            2 => packet[self.random.below(3)] ^= 1 << self.random.below(8),
+            3 => packet[3] = 5 + self.random.below(251) as u8,
+            4 => packet[4 + self.random.below(2)] ^= 1 << self.random.below(8),
+            5 => packet[6] = 1 + self.random.below(255) as u8,
+            6 => packet[12..16].copy_from_slice(&nobodys_round),
+            _ => packet[16..20].copy_from_slice(&nobodys_round),
+        }
+        let player = self.any_player();
+        let answer = self.hand_over(player, packet.clone())?;
+        if (1..=5).contains(&answer) {
+            Ok(())
+        } else {
+            Err(format!("malformed packet {:02x?} got {}", packet, answer))
+        }
+    }
+
+    /// One packet to one player; what goes out travels on.
+    fn hand_over(&mut self, player: Player, mut packet: Packet) -> Result<u32, String> {
+        let settings = self.settings;
+        let answer = match player {
+            Player::Primary => calls::primary_step(settings, &mut packet, &mut self.next),
+            Player::Acceptor(own) => calls::acceptor_step(settings, own as u32, &mut packet, &mut self.acceptors[own]),
+            Player::Backup(index) => calls::backup_step(settings, index as u32 + 1, &mut packet, &mut self.backups[index]),
+            Player::Learner(index) => calls::learner_step(settings, &mut packet, &mut self.learners[index]),
+        };
+        let known = matches!(answer, 1..=6 | 8..=16 | TO_ACCEPTORS | TO_LEADER | TO_LEARNERS | HOLD | DECIDED);
+        if !known {
+            return Err(format!("{:02x?} got {}", packet, answer));
+        }
+        self.send(answer, &packet);
+        match (player, answer) {
+            (Player::Acceptor(own), TO_LEARNERS) => self.record_vote(own, &packet)?,
+            (Player::Backup(index), TO_ACCEPTORS) => {
+                let instance = number(&packet[8..]) as usize;
+                if value(&packet) != value_of(&self.backups[index].own_values, instance) {
+                    self.gave_way.push((instance, number(&packet[12..])));
+                }
+            }
+            _ => {}
+        }
+        Ok(answer)
+    }
+
+    fn send(&mut self, answer: u32, packet: &[u8]) {
+        let players: Vec<Player> = match answer {
+            TO_ACCEPTORS => (0..self.acceptors.len()).map(Player::Acceptor).collect(),
+            TO_LEADER => (0..BACKUPS).map(Player::Backup).collect(),
+            TO_LEARNERS => (0..LEARNERS).map(Player::Learner).collect(),
+            _ => return,
+        };
+        self.sent.push(packet.to_vec());
+        self.travelling.extend(players.into_iter().map(|player| (player, packet.to_vec())));
+    }
+
+    /// Counted for the acceptor whose call sent it, whatever the packet says of its sender.
+    fn record_vote(&mut self, own: usize, packet: &[u8]) -> Result<(), String> {
+        let (instance, round, value) = (number(&packet[8..]) as usize, number(&packet[12..]), value(packet));
+        let voters = self.votes.entry((instance, round, value)).or_insert(0);
+        *voters |= 1 << own;
+        if 2 * voters.count_ones() <= self.settings.acceptors {
+            return Ok(());
+        }
+        match self.decided[instance] {
+            Some(other) if other != value => return Err(format!("instance {} decided {:x} and {:x}", instance, other, value)),
+            Some(_) => self.seen.kept |= self.gave_way.contains(&(instance, round)),
+            None => self.decided[instance] = Some(value),
+        }
+        self.seen.decision = true;
+        self.seen.takeover |= round > 0;
+        Ok(())
+    }
+
+    /// Demand 3, and what delivery and holes say, after each step.
+    fn check(&mut self) -> Result<(), String> {
+        let mut lists = Vec::new();
+        for learner in 0..LEARNERS {
+            let answers = self.answers(learner)?;
+            lists.push(self.delivered(learner, &answers)?);
+            self.check_hole(learner, &answers)?;
+        }
+        let shorter = lists[0].len().min(lists[1].len());
+        if lists[0][..shorter] != lists[1][..shorter] {
+            return Err(format!("delivered lists part: {:x?}", lists));
+        }
+        Ok(())
+    }
+
+    fn answers(&mut self, learner: usize) -> Result<Vec<Option<u128>>, String> {
+        let mut answers = Vec::new();
+        for instance in 0..self.settings.instances as usize {
+            let mut value = u128::MAX;
+            let answer = match calls::learner_answer(self.settings, instance as u32, &mut self.learners[learner], &mut value) {
+                DONE => Some(value),
+                NOT_YET => None,
+                refusal => return Err(format!("answer for instance {} refused by {}", instance, refusal)),
+            };
+            if answer.is_some() && answer != self.decided[instance] {
+                return Err(format!("learner {} told {:x?} for instance {}, decided is {:x?}", learner, answer, instance, self.decided[instance]));
+            }
+            let before = self.told[learner][instance];
+            if before.is_some() && before != answer {
+                return Err(format!("learner {} told {:x?} for instance {}, then {:x?}", learner, before, instance, answer));
+            }
+            self.told[learner][instance] = answer;
+            self.seen.null_repair |= answer == Some(0) && self.holes[learner][instance];
+            answers.push(answer);
+        }
+        Ok(answers)
+    }
+
+    /// The delivered list, which is the answers before the first "not yet"; the rest of the buffer stays.
+    fn delivered(&mut self, learner: usize, answers: &[Option<u128>]) -> Result<Vec<u128>, String> {
+        let expected: Vec<u128> = answers.iter().map_while(|answer| *answer).collect();
+        let mut bytes: Vec<u8> = expected.iter().flat_map(|value| value.to_be_bytes()).collect();
+        bytes.resize(16 * answers.len(), 0x5a);
+        let mut buffer = vec![0x5a; 16 * answers.len()];
+        let mut count = NONE;
+        let answer = calls::learner_deliver(self.settings, &mut self.learners[learner], &mut buffer, &mut count);
+        if answer != DONE || count as usize != expected.len() || buffer != bytes {
+            return Err(format!("delivery answered {}, {} of {:x?}: {:02x?}", answer, count, answers, buffer));
+        }
+        Ok(expected)
+    }
+
+    fn check_hole(&mut self, learner: usize, answers: &[Option<u128>]) -> Result<(), String> {
+        let end = answers.iter().rposition(|answer| answer.is_some()).unwrap_or(0);
+        let expected = answers[..end].iter().position(|answer| answer.is_none());
+        let mut hole = NONE;
+        let found = match calls::learner_first_hole(self.settings, &mut self.learners[learner], &mut hole) {
+            DONE => Some(hole as usize),
+            NO_HOLE => None,
+            refusal => return Err(format!("holes refused by {}", refusal)),
+        };
+        if found != expected || found.is_none() && hole != NONE {
+            return Err(format!("first hole {:?} of {:x?}", found, answers));
+        }
+        if let Some(hole) = found {
+            self.holes[learner][hole] = true;
+        }
+        Ok(())
+    }
+
+    /// A saved table read into another learner's gives the same table, and saving changes none.
+    fn check_saved(&mut self) -> Result<(), String> {
+        let instances = self.settings.instances as usize;
+        for learner in &mut self.learners {
+            let before = learner.clone();
+            let mut other = LearnerTables::fresh(instances);
+            let mut saved = vec![0; 8 + 21 * instances];
+            let answers = (calls::learner_save(self.settings, learner, &mut saved), calls::learner_read_saved(self.settings, &mut saved, &mut other));
+            if answers != (DONE, DONE) || *learner != before || other != before {
+                return Err(format!("{:x?} saved as {:02x?} and read as {:x?}, answers {:?}", before, saved, other, answers));
+            }
+        }
+        Ok(())
+    }
+}
+
+fn main() {
+    let (runs, seed) = random::count_and_seed();
+    let mut seeds = Random::new(seed);
+    let (mut passed, mut failed) = (0, 0);
+    let mut seen = [("a decision", 0), ("a takeover that decided", 0), ("a hole repaired by null", 0), ("a decided value kept by a takeover", 0)];
+    let mut told = Instant::now();
+    for _ in 0..runs {
+        let seed = seeds.number();
+        let mut run = Run::new(seed);
+        match run.go() {
+            Ok(()) => passed += 1,
+            Err(reason) => {
+                failed += 1;
+                if failed <= 10 {
+                    println!("FAILED: run {:x} with {:?}: {}", seed, run.settings, reason);
+                }
+            }
+        }
+        let had = [run.seen.decision, run.seen.takeover, run.seen.null_repair, run.seen.kept];
+        seen.iter_mut().zip(had).for_each(|((_, count), had)| *count += had as u64);
+        if told.elapsed() >= Duration::from_secs(5) {
+            eprintln!("simulate: {} of {} runs", passed + failed, runs);
+            told = Instant::now();
+        }
+    }
+    for (what, count) in seen {
+        println!("runs with {}: {}", what, count);
+        if count == 0 {
+            println!("FAILED: no run had {}", what);
+            failed += 1;
+        }
+    }
+    println!("{} passed, {} failed", passed, failed);
+    std::process::exit((failed > 0) as i32);
+}

@@ -1,0 +1,81 @@
+//! The numbers and tables of the header, as the model and the archives both take them.
+
+/// The mark "none" among rounds.
+pub const NONE: u32 = u32::MAX;
+
+pub const TO_ACCEPTORS: u32 = 101;
+pub const TO_LEADER: u32 = 102;
+pub const TO_LEARNERS: u32 = 103;
+pub const HOLD: u32 = 104;
+pub const DECIDED: u32 = 105;
+pub const DONE: u32 = 106;
+pub const NOT_YET: u32 = 107;
+pub const NO_HOLE: u32 = 108;
+
+#[derive(Clone, Copy, PartialEq, Debug)]
+pub struct Settings {
+    pub acceptors: u32,
+    pub instances: u32,
+}
+
+/// What a start names.
+#[derive(Clone, Copy, PartialEq, Debug)]
+pub struct Start {
+    pub instance: u32,
+    pub floor: u32,
+    pub value: u128,
+}
+
+#[derive(Clone, PartialEq, Debug)]
+pub struct AcceptorTables {
+    pub rounds: Vec<u32>,
+    pub vote_rounds: Vec<u32>,
+    pub values: Vec<u64>,
+}
+
+#[derive(Clone, PartialEq, Debug)]
+pub struct BackupTables {
+    pub rounds: Vec<u32>,
+    pub phases: Vec<u8>,
+    pub sets: Vec<u8>,
+    pub best_vote_rounds: Vec<u32>,
+    pub best_values: Vec<u64>,
+    pub own_values: Vec<u64>,
+}
+
+#[derive(Clone, PartialEq, Debug)]
+pub struct LearnerTables {
+    pub rounds: Vec<u32>,
+    pub sets: Vec<u8>,
+    pub values: Vec<u64>,
+}
+
+impl AcceptorTables {
+    pub fn fresh(instances: usize) -> Self {
+        AcceptorTables { rounds: vec![0; instances], vote_rounds: vec![NONE; instances], values: vec![0; 2 * instances] }
+    }
+}
+
+impl BackupTables {
+    pub fn fresh(instances: usize) -> Self {
+        BackupTables {
+            rounds: vec![0; instances],
+            phases: vec![0; instances],
+            sets: vec![0; instances],
+            best_vote_rounds: vec![NONE; instances],
+            best_values: vec![0; 2 * instances],
+            own_values: vec![0; 2 * instances],
+        }
+    }
+}
+
+impl LearnerTables {
+    pub fn fresh(instances: usize) -> Self {
+        LearnerTables { rounds: vec![NONE; instances], sets: vec![0; instances], values: vec![0; 2 * instances] }
+    }
+}
+
+/// A value is two numbers in a table, the high half first, and one number here.
+pub fn value_of(values: &[u64], instance: usize) -> u128 {
+    (values[2 * instance] as u128) << 64 | values[2 * instance + 1] as u128
+}
