@@ -1,0 +1,58 @@
+/* What the operator has in hand: the players' processes, the wires between them, and what is heard from both. */
+#ifndef OPERATOR_H
+#define OPERATOR_H
+
+#include "players.h"
+
+/* The types of packets that the story speaks of. */
+enum { REQUEST = 0, PREPARE = 1, PROMISE = 2, PROPOSE = 3, VOTE = 4 };
+
+/* The null value is 16 zero bytes, so the empty text stands for it. */
+#define NULL_VALUE ""
+
+typedef struct {
+    uint8_t type;
+    uint32_t instance, round, vote_round;
+    const char *value; /* a text of at most 16 characters */
+} message;
+
+/* The wires from the primary to acceptor i, and from acceptor i to the learner, pass through the operator's hands; backup 1 sends directly. */
+enum { PROPOSE_WIRE, VOTE_WIRE = ACCEPTORS, WIRES = 2 * ACCEPTORS };
+
+/* What a wire did with a packet. Numbers that no call answers, since a wire is heard like a player. */
+enum { PASSED_ON = 200, LOST, HELD_BACK };
+
+/* Players and wires are heard alike: sources below PLAYERS are the players, WIRE(i) is wire i. */
+#define WIRE(wire) (PLAYERS + (wire))
+enum { SOURCES = PLAYERS + WIRES };
+
+/* Opens PLAYERS + WIRES ports from the first on and starts the players. Ends the program with a message where it cannot. */
+void start_players(uint16_t first_port);
+void end_players(void);
+
+/* Kills a player's process. Answers whether it was running until then. */
+int kill_player(int player);
+
+/* The wire will lose or hold back the next packet of the instance; all others pass. */
+void arrange(int wire, uint32_t instance, uint32_t what);
+
+/* Lets the packets of the instance that were held back go on. */
+void release(uint32_t instance);
+
+void send_request(const char *value);
+void send_command(int player, uint32_t kind, uint32_t instance, const char *value);
+
+/* Whether the source is heard with this verdict on this message (whatever its switch number), now or within the time that the operator waits. */
+int await(int source, uint32_t verdict, const message *wanted);
+
+/* Asks the learner. Answers null where it does not answer. */
+const learned *ask_learner(void);
+
+/* Listens for so long, and names the processes, so that a user can stop one and watch. */
+void listen_for(int milliseconds);
+void name_processes(void);
+
+/* A player's name, good until the next call. */
+const char *player_name(int player);
+
+#endif

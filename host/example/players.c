@@ -1,0 +1,201 @@
+/*
+ * The players' processes. Each does what the verdicts of its own player's calls say: the library sends nothing and waits for nothing.
+ *
+ * What the host owes by myrthakel.h holds by construction: each table is an array of its own in one process without threads, so none overlap and each
+ * is lent to one call at a time, and each length is its array's.
+ *
+ * The tables live as long as the process. An acceptor that ended must not come back with fresh ones, which would have forgotten its promises and
+ * votes; nor a primary, which would propose for instances that it has used. This host therefore never restarts a player.
+ */
+#define _POSIX_C_SOURCE 200809L
+#include "players.h"
+
+#include <arpa/inet.h>
+#include <errno.h>
+#include <poll.h>
+#include <string.h>
+#include <sys/socket.h>
+#include <unistd.h>
+
+/* One byte more than a packet, so that a datagram that is too long is seen to be, and refused by its length. */
+typedef struct {
+    uint8_t bytes[MYRTHAKEL_PACKET_LENGTH + 1];
+    size_t length;
+} datagram;
+
+uint64_t get_number(const uint8_t *bytes, int width)
+{
+    uint64_t number = 0;
+    for (int i = 0; i < width; i++)
+        number = number << 8 | bytes[i];
+    return number;
+}
+
+void put_number(uint8_t *bytes, int width, uint64_t number)
+{
+    for (int i = width - 1; i >= 0; i--) {
+        bytes[i] = (uint8_t)number;
+        number >>= 8;
+    }
+}
+
+void send_packet(int from, uint16_t port, const uint8_t *packet)
+{
+    struct sockaddr_in to = {.sin_family = AF_INET, .sin_port = htons(port), .sin_addr.s_addr = htonl(INADDR_LOOPBACK)};
+    /* A packet that could not be sent is a lost packet, and those the protocol bears. */
+    (void)sendto(from, packet, MYRTHAKEL_PACKET_LENGTH, 0, (struct sockaddr *)&to, sizeof to);
+}
+
+static void tell_operator(const place *here, const report *what)
+{
+    /* The operator may be gone; the next wait sees that. */
+    (void)send(here->control, what, sizeof *what, MSG_NOSIGNAL);
+}
+
+/* Sends where the verdict says, which is nowhere for hold, decided and every refusal, and reports. */
+static void carry_out(const place *here, uint32_t verdict, const uint8_t *packet)
+{
+    report what = {.verdict = verdict};
+    if (verdict == MYRTHAKEL_TO_ACCEPTORS)
+        for (int i = 0; i < ACCEPTORS; i++)
+            send_packet(here->socket, here->acceptor_ports[i], packet);
+    else if (verdict == MYRTHAKEL_TO_LEADER)
+        send_packet(here->socket, here->leader_port, packet);
+    else if (verdict == MYRTHAKEL_TO_LEARNERS)
+        send_packet(here->socket, here->learner_port, packet);
+    memcpy(what.packet, packet, sizeof what.packet);
+    tell_operator(here, &what);
+}
+
+/* Reads a command for this player and answers 1. A roll call is answered here; the process ends where the operator is gone. */
+static int read_command(const place *here, command *order)
+{
+    ssize_t length = recv(here->control, order, sizeof *order, 0);
+    if (length <= 0)
+        _exit(0);
+    if (length != (ssize_t)sizeof *order)
+        return 0;
+    if (order->kind == ROLL_CALL)
+        tell_operator(here, &(report){.verdict = MYRTHAKEL_DONE});
+    return order->kind != ROLL_CALL;
+}
+
+/* Waits for a packet or a command. Answers 1 for a command. */
+static int next(const place *here, datagram *packet, command *order)
+{
+    for (;;) {
+        struct pollfd waiting[2] = {{.fd = here->control, .events = POLLIN}, {.fd = here->socket, .events = POLLIN}};
+        if (poll(waiting, 2, -1) < 0) {
+            if (errno != EINTR)
+                _exit(1);
+            continue;
+        }
+        if (waiting[0].revents && read_command(here, order))
+            return 1;
+        if (waiting[1].revents) {
+            memset(packet, 0, sizeof *packet);
+            ssize_t length = recv(here->socket, packet->bytes, sizeof packet->bytes, MSG_DONTWAIT);
+            if (length >= 0) {
+                packet->length = (size_t)length;
+                return 0;
+            }
+        }
+    }
+}
+
+static _Noreturn void play_primary(const place *here)
+{
+    uint32_t next_instance = 0;
+    datagram packet;
+    command order;
+    for (;;)
+        if (!next(here, &packet, &order))
+            carry_out(here, myrthakel_primary_step(ACCEPTORS, INSTANCES, packet.bytes, packet.length, &next_instance, 1), packet.bytes);
+}
+
+static _Noreturn void play_acceptor(const place *here, uint32_t own)
+{
+    uint32_t rounds[INSTANCES] = {0}, vote_rounds[INSTANCES];
+    uint64_t values[2 * INSTANCES] = {0};
+    datagram packet;
+    command order;
+    for (int i = 0; i < INSTANCES; i++)
+        vote_rounds[i] = MYRTHAKEL_NONE;
+    for (;;)
+        if (!next(here, &packet, &order))
+            carry_out(here, myrthakel_acceptor_step(ACCEPTORS, INSTANCES, own, packet.bytes, packet.length, rounds, INSTANCES, vote_rounds, INSTANCES,
+                                                    values, 2 * INSTANCES), packet.bytes);
+}
+
+static _Noreturn void play_backup(const place *here)
+{
+    uint32_t rounds[INSTANCES] = {0}, best_vote_rounds[INSTANCES];
+    uint8_t phases[INSTANCES] = {0}, sets[INSTANCES] = {0};
+    uint64_t best_values[2 * INSTANCES] = {0}, own_values[2 * INSTANCES] = {0};
+    uint8_t buffer[MYRTHAKEL_PACKET_LENGTH] = {0};
+    datagram packet;
+    command order;
+    for (int i = 0; i < INSTANCES; i++)
+        best_vote_rounds[i] = MYRTHAKEL_NONE;
+    for (;;)
+        if (next(here, &packet, &order))
+            carry_out(here, myrthakel_backup_start(ACCEPTORS, INSTANCES, BACKUP_NUMBER, order.instance, order.floor,
+                                                   order.value_high, order.value_low, buffer, sizeof buffer,
+                                                   rounds, INSTANCES, phases, INSTANCES, sets, INSTANCES, best_vote_rounds, INSTANCES,
+                                                   best_values, 2 * INSTANCES, own_values, 2 * INSTANCES), buffer);
+        else
+            carry_out(here, myrthakel_backup_step(ACCEPTORS, INSTANCES, BACKUP_NUMBER, packet.bytes, packet.length,
+                                                  rounds, INSTANCES, phases, INSTANCES, sets, INSTANCES, best_vote_rounds, INSTANCES,
+                                                  best_values, 2 * INSTANCES, own_values, 2 * INSTANCES), packet.bytes);
+}
+
+typedef struct {
+    uint32_t rounds[INSTANCES];
+    uint8_t sets[INSTANCES];
+    uint64_t values[2 * INSTANCES];
+} learner_tables;
+
+static void answer_question(const place *here, const learner_tables *tables)
+{
+    report what = {0};
+    learned *answer = &what.learned;
+    for (uint32_t i = 0; i < INSTANCES; i++) {
+        uint64_t high = 0, low = 0;
+        answer->answers[i] = myrthakel_learner_answer(ACCEPTORS, INSTANCES, i, tables->rounds, INSTANCES, tables->sets, INSTANCES,
+                                                      tables->values, 2 * INSTANCES, &high, &low);
+        put_number(answer->values + i * MYRTHAKEL_VALUE_LENGTH, 8, high);
+        put_number(answer->values + i * MYRTHAKEL_VALUE_LENGTH + 8, 8, low);
+    }
+    answer->hole_answer = myrthakel_learner_first_hole(ACCEPTORS, INSTANCES, tables->rounds, INSTANCES, tables->sets, INSTANCES,
+                                                       tables->values, 2 * INSTANCES, &answer->hole);
+    /* Where the list is refused the answer as a whole is not done, and the operator misses it. */
+    what.verdict = myrthakel_learner_deliver(ACCEPTORS, INSTANCES, tables->rounds, INSTANCES, tables->sets, INSTANCES,
+                                             tables->values, 2 * INSTANCES, answer->delivered, sizeof answer->delivered, &answer->delivered_count);
+    tell_operator(here, &what);
+}
+
+static _Noreturn void play_learner(const place *here)
+{
+    learner_tables tables = {0};
+    datagram packet;
+    command order;
+    for (int i = 0; i < INSTANCES; i++)
+        tables.rounds[i] = MYRTHAKEL_NONE;
+    for (;;)
+        if (next(here, &packet, &order))
+            answer_question(here, &tables);
+        else
+            carry_out(here, myrthakel_learner_step(ACCEPTORS, INSTANCES, packet.bytes, packet.length, tables.rounds, INSTANCES,
+                                                   tables.sets, INSTANCES, tables.values, 2 * INSTANCES), packet.bytes);
+}
+
+_Noreturn void play(int player, const place *here)
+{
+    if (player == PRIMARY)
+        play_primary(here);
+    if (player == BACKUP)
+        play_backup(here);
+    if (player == LEARNER)
+        play_learner(here);
+    play_acceptor(here, (uint32_t)player);
+}
