@@ -1,6 +1,7 @@
 // The bench: one depot with M = 3 and N = 1,024, all players fresh, driven by lines of standard input. A line is read first and handled after, so that the
 // tables pass through the handling alone: each function that passes on many tables is dear to check.
 ghost use mathlib.Core.Path.{_≡_};
+ghost use lib.ListN.{length};
 ghost use Rattle.bench.specs.Bench.{freshVoteRounds};
 use libc::STDIN_FILENO;
 use libc::STDOUT_FILENO;
@@ -379,14 +380,11 @@ fn give_to_acceptor(
     rounds: &mut [u32],
     vote_rounds: &mut [u32],
     values: &mut [u64],
-) -> u32 {
+) -> u32
+    requires rounds { ⌜ length (now rounds) ≡ 3072 ⌝ }
+    requires values { ⌜ length (now values) ≡ 6144 ⌝ }
+{
     if 2 < own {
-        return 7;
-    }
-    if rounds.len() != 3072 {
-        return 7;
-    }
-    if values.len() != 6144 {
         return 7;
     }
     let start = (own as usize) * 1024;
@@ -411,29 +409,18 @@ fn give_to_backup(
     best_vote_rounds: &mut [u32],
     best_values: &mut [u64],
     own_values: &mut [u64],
-) -> u32 {
+) -> u32
+    requires rounds { ⌜ length (now rounds) ≡ 3072 ⌝ }
+    requires phases { ⌜ length (now phases) ≡ 3072 ⌝ }
+    requires sets { ⌜ length (now sets) ≡ 3072 ⌝ }
+    requires best_vote_rounds { ⌜ length (now «best_vote_rounds») ≡ 3072 ⌝ }
+    requires best_values { ⌜ length (now «best_values») ≡ 6144 ⌝ }
+    requires own_values { ⌜ length (now «own_values») ≡ 6144 ⌝ }
+{
     if own < 1 {
         return 7;
     }
     if 3 < own {
-        return 7;
-    }
-    if rounds.len() != 3072 {
-        return 7;
-    }
-    if phases.len() != 3072 {
-        return 7;
-    }
-    if sets.len() != 3072 {
-        return 7;
-    }
-    if best_vote_rounds.len() != 3072 {
-        return 7;
-    }
-    if best_values.len() != 6144 {
-        return 7;
-    }
-    if own_values.len() != 6144 {
         return 7;
     }
     let start = ((own - 1) as usize) * 1024;
@@ -464,29 +451,18 @@ fn start_backup(
     best_vote_rounds: &mut [u32],
     best_values: &mut [u64],
     own_values: &mut [u64],
-) -> u32 {
+) -> u32
+    requires rounds { ⌜ length (now rounds) ≡ 3072 ⌝ }
+    requires phases { ⌜ length (now phases) ≡ 3072 ⌝ }
+    requires sets { ⌜ length (now sets) ≡ 3072 ⌝ }
+    requires best_vote_rounds { ⌜ length (now «best_vote_rounds») ≡ 3072 ⌝ }
+    requires best_values { ⌜ length (now «best_values») ≡ 6144 ⌝ }
+    requires own_values { ⌜ length (now «own_values») ≡ 6144 ⌝ }
+{
     if own < 1 {
         return 7;
     }
     if 3 < own {
-        return 7;
-    }
-    if rounds.len() != 3072 {
-        return 7;
-    }
-    if phases.len() != 3072 {
-        return 7;
-    }
-    if sets.len() != 3072 {
-        return 7;
-    }
-    if best_vote_rounds.len() != 3072 {
-        return 7;
-    }
-    if best_values.len() != 6144 {
-        return 7;
-    }
-    if own_values.len() != 6144 {
         return 7;
     }
     let start = ((own - 1) as usize) * 1024;
@@ -517,7 +493,10 @@ fn give_to_acceptors(
     vote_rounds_1: &mut [u32],
     vote_rounds_2: &mut [u32],
     values: &mut [u64],
-) -> u32 {
+) -> u32
+    requires rounds { ⌜ length (now rounds) ≡ 3072 ⌝ }
+    requires values { ⌜ length (now values) ≡ 6144 ⌝ }
+{
     if own == 0 {
         return give_to_acceptor(0, packet, rounds, vote_rounds_0, values);
     }
