@@ -1,5 +1,5 @@
 -- The promises of every call, for the acceptor: it acts or refuses by its numbers, a refusal keeps all, no cell but the instance's changes, a possible
--- cell stays possible, and what is sent keeps the packet table. Each is wire's theorem for any player, from the facts of this player's rule and tables.
+-- cell stays possible, and what is sent keeps the packet table. Each is a theorem of any player, from the facts of this player's rule and tables.
 -- Assumes nothing.
 use Prim.Native.Nat.{ℕ, _+_, _*_, _≤_, _<_, _^_}
 use mathlib.Core.Path.{_≡_, refl, sym, ap, _∙_, subst}
@@ -8,31 +8,34 @@ use mathlib.Core.List.{List, [], _∷_}
 use native.Mathlib.Omega.{arith}
 use lib.Dec.{lit<}
 use lib.ListN.{length, length-set, length-replicate}
-use Rattle.wire.specs.declared.Instance.{Instance}
+use Rattle.terms.specs.declared.Instance.{Instance}
+use Rattle.terms.specs.declared.Place.{Place}
+use Rattle.terms.specs.declared.Place.the-variants.{At}
+use Rattle.terms.specs.declared.Round.{Round}
+use Rattle.terms.specs.declared.Value.{Value}
+use Rattle.terms.specs.declared.Verdict.the-variants.{ToLeader, ToLearners}
+use Rattle.terms.specs.Rounds.{theRound, none, ownedOr0, ownedNot0, atMost}
+use Rattle.terms.specs.Values.{null}
+use Rattle.terms.specs.Votes.{isVoteBy}
+use Rattle.terms.specs.Columns.{roundAt, valueAt}
+use Rattle.terms.specs.Places.{placed}
+use Rattle.terms.specs.Verdict.{verdictNumber, saysSend}
+use Rattle.terms.proofs.Columns.{round-there, round-apart, value-there, value-apart, fresh-number, fresh-value, below-set, below-value, below-fresh}
+use Rattle.terms.proofs.Ladder.{need-elim, both-true, and-true}
+use Rattle.terms.proofs.Rounds.{owned-or-0, zero-owned}
+use Rattle.terms.proofs.Places.{PlacedBy, placed-index, placed-by}
+use Rattle.terms.proofs.Votes.{never-voted, vote-rises, vote-itself}
 use Rattle.wire.specs.declared.Message.{Message}
 use Rattle.wire.specs.declared.Message.the-variants.{Prepare, Promise, Propose, Vote}
-use Rattle.wire.specs.declared.Place.{Place}
-use Rattle.wire.specs.declared.Place.the-variants.{At}
-use Rattle.wire.specs.declared.Round.{Round}
-use Rattle.wire.specs.declared.Value.{Value}
-use Rattle.wire.specs.declared.Verdict.the-variants.{ToLeader, ToLearners}
-use Rattle.wire.specs.Rounds.{theRound, none, ownedOr0, ownedNot0, atMost}
-use Rattle.wire.specs.Values.{null}
-use Rattle.wire.specs.Table.{keepsTable, isVoteBy}
+use Rattle.wire.specs.Table.{keepsTable}
 use Rattle.wire.specs.Message.{fieldsOf}
-use Rattle.wire.specs.Columns.{roundAt, valueAt}
-use Rattle.wire.specs.Promises.{OneOf, first, later, packetRefusals, NumbersAre, RefusalKeepsAll, UsesCell, OtherCellsStay, PossibleStays, SendsKept, FittingStays}
-use Rattle.wire.specs.Step.{Ruling, refused, sends, placed}
-use Rattle.wire.specs.Verdict.{verdictNumber, saysSend}
-use Rattle.wire.proofs.Columns.{round-there, round-apart, value-there, value-apart, fresh-number, fresh-value, below-set, below-value, below-fresh}
 use Rattle.wire.proofs.Eliminators.{prepare-elim, propose-elim}
-use Rattle.wire.proofs.Ladder.{need-elim, both-true, and-true}
-use Rattle.wire.proofs.Laws.{one-of, Writable, prepare-owned, propose-owned}
+use Rattle.wire.proofs.Laws.{Writable, prepare-owned, propose-owned}
 use Rattle.wire.proofs.Parts.{ValueFits, prepare-fits, propose-fits, propose-value-fits, promise-writable, vote-writable}
-use Rattle.wire.proofs.Promises.{RuledBy, NextCell, SendsOnly, refusal-keeps-all, numbers-are, other-cells-stay, possible-stays, sends-kept, fitting-stays, tables-hold, any-cell}
-use Rattle.wire.proofs.Rounds.{owned-or-0, zero-owned}
-use Rattle.wire.proofs.Steps.{PlacedBy, placed-index, placed-by}
-use Rattle.wire.proofs.Votes.{never-voted, vote-rises, vote-itself}
+use Rattle.player.specs.Promises.{OneOf, first, later, packetRefusals, NumbersAre, RefusalKeepsAll, UsesCell, OtherCellsStay, PossibleStays, SendsKept, FittingStays}
+use Rattle.player.specs.Step.{Ruling, refused, sends}
+use Rattle.player.proofs.Numbers.{one-of}
+use Rattle.player.proofs.Promises.{RuledBy, NextCell, SendsOnly, refusal-keeps-all, numbers-are, other-cells-stay, possible-stays, sends-kept, fitting-stays, tables-hold, any-cell}
 use Rattle.quorum.specs.declared.Settings.{Settings}
 use Rattle.acceptor.specs.declared.Cell.{Cell}
 use Rattle.acceptor.specs.Acceptor.{cell, freshCell, possible, obeying, rule, Tables, freshTables, cellAt, withCell, place, acceptor, acceptorStep, Sized, Within, Fitting}

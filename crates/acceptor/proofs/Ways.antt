@@ -9,23 +9,25 @@ use native.Mathlib.Omega.{arith}
 use lib.Dec.{eqb, ltb}
 use lib.ListN.{length}
 use borrow.Author.Tests.{not-true, not-false, eqb-true, ltb-true}
-use Rattle.wire.specs.declared.Instance.{Instance}
+use Rattle.terms.specs.declared.Instance.{Instance}
+use Rattle.terms.specs.declared.Place.{Place}
+use Rattle.terms.specs.declared.Place.the-variants.{At, Nowhere}
+use Rattle.terms.specs.declared.Round.{Round}
+use Rattle.terms.specs.declared.Value.{Value}
+use Rattle.terms.specs.declared.Verdict.the-variants.{ToLeader, ToLearners}
+use Rattle.terms.specs.Rounds.{atMost}
+use Rattle.terms.specs.Places.{placed, nowhereOf}
+use Rattle.terms.proofs.Ladder.{both-true, need-passed, need-failed}
+use Rattle.terms.proofs.Places.{placed-index}
 use Rattle.wire.specs.declared.Message.{Message}
 use Rattle.wire.specs.declared.Message.the-variants.{Request, Prepare, Promise, Propose, Vote}
-use Rattle.wire.specs.declared.Place.{Place}
-use Rattle.wire.specs.declared.Place.the-variants.{At, Nowhere}
 use Rattle.wire.specs.declared.Reading.{Reading}
 use Rattle.wire.specs.declared.Reading.the-variants.{Read, Refused}
-use Rattle.wire.specs.declared.Round.{Round}
-use Rattle.wire.specs.declared.Value.{Value}
-use Rattle.wire.specs.declared.Verdict.the-variants.{ToLeader, ToLearners}
-use Rattle.wire.specs.Rounds.{atMost}
 use Rattle.wire.specs.Message.{whenPrepare, whenPropose}
 use Rattle.wire.specs.Packet.{readPacket, refusalOf}
-use Rattle.wire.specs.Step.{Outcome, unchanged, Ruling, refused, sends, placed, nowhereOf, ruled, act}
-use Rattle.wire.proofs.Ladder.{both-true, need-passed, need-failed}
-use Rattle.wire.proofs.Steps as steps
-use Rattle.wire.proofs.Steps.{placed-nowhere, placed-at, placed-index}
+use Rattle.player.specs.Step.{Outcome, unchanged, Ruling, refused, sends, ruled, act}
+use Rattle.player.proofs.Steps as steps
+use Rattle.player.proofs.Steps.{placed-nowhere, placed-at}
 use Rattle.quorum.specs.declared.Settings.{Settings}
 use Rattle.quorum.specs.Settings.{allowed}
 use Rattle.quorum.proofs.Laws.{allowed-brings}

@@ -6,20 +6,21 @@ use mathlib.Core.Bool.{Bool, _&&_}
 use mathlib.Core.List.{List}
 use lib.Dec.{eqb, ltb}
 use lib.ListN.{length, replicate}
+use Rattle.terms.specs.declared.Place.{Place}
+use Rattle.terms.specs.declared.Place.the-variants.{Nowhere}
+use Rattle.terms.specs.declared.Round.{Round}
+use Rattle.terms.specs.declared.Value.{Value}
+use Rattle.terms.specs.declared.Verdict.the-variants.{ToLeader, ToLearners}
+use Rattle.terms.specs.Ladder.{need_or_then_}
+use Rattle.terms.specs.Rounds.{theRound, none, ownedOr0, atMost}
+use Rattle.terms.specs.Values.{null}
+use Rattle.terms.specs.Votes.{isVoteBy}
+use Rattle.terms.specs.Places.{placed}
+use Rattle.terms.specs.Columns.{roundAt, withRound, valueAt, withValue, Below}
 use Rattle.wire.specs.declared.Message.{Message}
 use Rattle.wire.specs.declared.Message.the-variants.{Promise, Vote}
-use Rattle.wire.specs.declared.Place.{Place}
-use Rattle.wire.specs.declared.Place.the-variants.{Nowhere}
-use Rattle.wire.specs.declared.Round.{Round}
-use Rattle.wire.specs.declared.Value.{Value}
-use Rattle.wire.specs.declared.Verdict.the-variants.{ToLeader, ToLearners}
-use Rattle.wire.specs.Ladder.{need_or_then_}
-use Rattle.wire.specs.Rounds.{theRound, none, ownedOr0, atMost}
-use Rattle.wire.specs.Values.{null}
-use Rattle.wire.specs.Table.{isVoteBy}
 use Rattle.wire.specs.Message.{whenPrepare, whenPropose}
-use Rattle.wire.specs.Step.{Outcome, Ruling, refused, sends, placed, Player, step}
-use Rattle.wire.specs.Columns.{roundAt, withRound, valueAt, withValue, Below}
+use Rattle.player.specs.Step.{Outcome, Ruling, refused, sends, Player, step}
 use Rattle.quorum.specs.declared.Settings.{Settings}
 use Rattle.quorum.specs.Settings.{allowed}
 use Rattle.acceptor.specs.declared.Cell.{Cell}

@@ -3,17 +3,17 @@ ghost use mathlib.Core.Path.{_≡_};
 ghost use lib.ListN.{length};
 ghost use Rattle.wire.specs.declared.Message.the-variants.{Prepare, Propose};
 ghost use Rattle.wire.specs.Packet.{packetLength};
-ghost use Rattle.wire.specs.Step.{outcome, act};
+ghost use Rattle.player.specs.Step.{outcome, act};
 ghost use Rattle.quorum.specs.Settings.{settings};
 ghost use Rattle.acceptor.specs.Acceptor.{freshCell, possible, tables, Sized, Within, cellAt, withCell, acceptorAllowed, acceptor, acceptorStep};
 use quorum::Settings;
-use wire::Instance;
+use terms::Instance;
+use terms::Place;
+use terms::Round;
+use terms::Value;
+use terms::Verdict;
 use wire::Message;
-use wire::Place;
 use wire::Reading;
-use wire::Round;
-use wire::Value;
-use wire::Verdict;
 
 // What an acceptor keeps of one instance.
 pub struct Cell {
@@ -27,7 +27,7 @@ pub fn fresh_cell() -> Cell
 {
     Cell {
         round: Round(0),
-        vote_round: Round(wire::NONE),
+        vote_round: Round(terms::NONE),
         value: Value { high: 0, low: 0 },
     }
 }
@@ -124,15 +124,15 @@ fn obey_prepare(
     requires long { ⌜ length (now packet) ≡ packetLength ⌝ }
     ensures { λ r. ⌜ outcome r (now (packet .exit)) (tables (now (rounds .exit)) (now («vote_rounds» .exit)) (now (values .exit))) ≡ act (acceptor settings own) (now (packet .entry)) (tables (now (rounds .entry)) (now («vote_rounds» .entry)) (now (values .entry))) (Prepare instance round) ⌝ }
 {
-    let place = wire::place_of(settings.instances, instance);
+    let place = terms::place_of(settings.instances, instance);
     let Place::At(index) = place else {
-        return wire::nowhere(place);
+        return terms::nowhere(place);
     };
     let cell = cell_at(rounds, vote_rounds, values, index);
     if !is_possible(cell) {
         return 17;
     }
-    if !wire::at_most(cell.round, round) {
+    if !terms::at_most(cell.round, round) {
         return 10;
     }
     let vote_round = cell.vote_round;
@@ -151,7 +151,7 @@ fn obey_prepare(
         value,
     };
     wire::put_message(packet, promise);
-    wire::verdict_number(Verdict::ToLeader)
+    terms::verdict_number(Verdict::ToLeader)
 }
 
 // Round and vote round become the packet's round, and the value its value; out goes a vote.
@@ -170,15 +170,15 @@ fn obey_propose(
     requires long { ⌜ length (now packet) ≡ packetLength ⌝ }
     ensures { λ r. ⌜ outcome r (now (packet .exit)) (tables (now (rounds .exit)) (now («vote_rounds» .exit)) (now (values .exit))) ≡ act (acceptor settings own) (now (packet .entry)) (tables (now (rounds .entry)) (now («vote_rounds» .entry)) (now (values .entry))) (Propose instance round value) ⌝ }
 {
-    let place = wire::place_of(settings.instances, instance);
+    let place = terms::place_of(settings.instances, instance);
     let Place::At(index) = place else {
-        return wire::nowhere(place);
+        return terms::nowhere(place);
     };
     let held = cell_at(rounds, vote_rounds, values, index);
     if !is_possible(held) {
         return 17;
     }
-    if !wire::at_most(held.round, round) {
+    if !terms::at_most(held.round, round) {
         return 10;
     }
     let voted = Cell {
@@ -194,13 +194,13 @@ fn obey_propose(
         value,
     };
     wire::put_message(packet, vote);
-    wire::verdict_number(Verdict::ToLearners)
+    terms::verdict_number(Verdict::ToLearners)
 }
 
 fn is_possible(cell: Cell) -> bool
     ensures { λ r. ⌜ r ≡ possible cell ⌝ }
 {
-    wire::owned_or_0(cell.round) & wire::is_vote_by(cell.round, cell.vote_round, cell.value)
+    terms::owned_or_0(cell.round) & terms::is_vote_by(cell.round, cell.vote_round, cell.value)
 }
 
 fn cell_at(rounds: &[u32], vote_rounds: &[u32], values: &[u64], index: usize) -> Cell

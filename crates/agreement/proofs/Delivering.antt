@@ -6,8 +6,8 @@ use mathlib.Core.Bool.{true, false}
 use mathlib.Core.List.{List, [], _∷_}
 use mathlib.Core.Logic.{_⊎_, inl, inr}
 use native.Mathlib.Omega.{arith}
-use Rattle.wire.specs.declared.Value.{Value}
-use Rattle.wire.proofs.Ladder.{by-test, if-true, if-false}
+use Rattle.terms.specs.declared.Value.{Value}
+use Rattle.terms.proofs.Ladder.{by-test, if-true, if-false}
 use Rattle.tally.specs.declared.Tally.{Tally}
 use Rattle.tally.specs.Tally.{isDecided}
 use Rattle.learner.specs.Tables.{Tables, cellAt, cellsFrom}

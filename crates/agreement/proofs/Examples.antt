@@ -10,24 +10,26 @@ use lib.Count.{ones}
 use lib.Dec.{eqb, lit<}
 use borrow.Author.Tests.{eqb-true, eqb-false, ltb-true}
 use Rattle.numbers.specs.BigEndian.{numberAt}
+use Rattle.terms.specs.declared.Round.{Round}
+use Rattle.terms.specs.declared.Value.{Value}
+use Rattle.terms.specs.Ladder.{if_then_else_, need_or_then_}
+use Rattle.terms.specs.Rounds.{theRound, ownerOf, ownedOr0, ownedNot0, rank, atMost}
+use Rattle.terms.specs.Votes.{isVoteBy}
+use Rattle.terms.specs.Places.{placed}
+use Rattle.terms.specs.Values.{null}
+use Rattle.terms.specs.Verdict.{saysSend}
+use Rattle.terms.proofs.Columns.{below-fresh}
+use Rattle.terms.proofs.Ladder.{both-true, or-cases}
 use Rattle.wire.specs.declared.Message.{Message}
 use Rattle.wire.specs.declared.Message.the-variants.{Vote}
 use Rattle.wire.specs.declared.Reading.{Reading}
 use Rattle.wire.specs.declared.Reading.the-variants.{Read, Refused}
-use Rattle.wire.specs.declared.Round.{Round}
-use Rattle.wire.specs.declared.Value.{Value}
-use Rattle.wire.specs.Ladder.{if_then_else_, need_or_then_}
-use Rattle.wire.specs.Rounds.{theRound, ownerOf, ownedOr0, ownedNot0, rank, atMost}
-use Rattle.wire.specs.Table.{requestRow, prepareRow, promiseRow, proposeRow, voteRow, tableRow, keepsTable, isVoteBy}
+use Rattle.wire.specs.Table.{requestRow, prepareRow, promiseRow, proposeRow, voteRow, tableRow, keepsTable}
 use Rattle.wire.specs.Message.{messageOf, fieldsOf, whenRequest, whenPrepare, whenPromise, whenPropose, whenVote}
 use Rattle.wire.specs.Packet.{packetLength, fieldsIn, readPacket, packetWith, packetOf}
-use Rattle.wire.specs.Step.{placed, afterReading, afterPlacing, ruled, act, step}
-use Rattle.wire.specs.Values.{null}
-use Rattle.wire.specs.Verdict.{saysSend}
-use Rattle.wire.proofs.Columns.{below-fresh}
 use Rattle.wire.proofs.Eliminators.{request-elim}
-use Rattle.wire.proofs.Ladder.{both-true, or-cases}
 use Rattle.wire.proofs.Laws.{packet-bytes}
+use Rattle.player.specs.Step.{afterReading, afterPlacing, ruled, act, step}
 use Rattle.quorum.specs.declared.Settings.{Settings}
 use Rattle.quorum.specs.Settings.{acceptorsAllowed, instancesAllowed, allowed}
 use Rattle.quorum.specs.Quorum.{majority, bit, hasMember, withMember, within, reaches}

@@ -8,22 +8,23 @@ use native.Mathlib.Omega.{arith}
 use lib.Dec.{eqb}
 use lib.ListN.{length}
 use borrow.Author.Tests.{eqb-false, eq-eqb, le-leb, lt-ltb}
-use Rattle.wire.specs.declared.Instance.{Instance}
+use Rattle.terms.specs.declared.Instance.{Instance}
+use Rattle.terms.specs.declared.Place.{Place}
+use Rattle.terms.specs.declared.Place.the-variants.{At, Nowhere}
+use Rattle.terms.specs.declared.Value.{Value}
+use Rattle.terms.specs.Rounds.{theInstance}
+use Rattle.terms.specs.Verdict.{verdictNumber}
+use Rattle.terms.specs.Ladder.{need_or_then_}
+use Rattle.terms.specs.Places.{placed}
+use Rattle.terms.proofs.Ladder.{need-elim, need-passed, if-elim, and-true}
+use Rattle.terms.proofs.Places.{PlacedBy, placed-index, placed-by}
 use Rattle.wire.specs.declared.Message.{Message}
-use Rattle.wire.specs.declared.Place.{Place}
-use Rattle.wire.specs.declared.Place.the-variants.{At, Nowhere}
 use Rattle.wire.specs.declared.Reading.{Reading}
 use Rattle.wire.specs.declared.Reading.the-variants.{Read, Refused}
-use Rattle.wire.specs.declared.Value.{Value}
-use Rattle.wire.specs.Rounds.{theInstance}
-use Rattle.wire.specs.Verdict.{verdictNumber}
-use Rattle.wire.specs.Ladder.{need_or_then_}
 use Rattle.wire.specs.Packet.{readPacket}
-use Rattle.wire.specs.Step.{Outcome, Ruling, refused, sends, counts, Player, placed, afterReading, afterPlacing, ruled, act, step}
 use Rattle.wire.proofs.Eliminators.{request-elim, prepare-elim, promise-elim, propose-elim, vote-elim}
-use Rattle.wire.proofs.Ladder.{need-elim, need-passed, if-elim, and-true}
 use Rattle.wire.proofs.Laws.{RefusedBy, reader-refuses}
-use Rattle.wire.proofs.Steps.{PlacedBy, placed-index, placed-by}
+use Rattle.player.specs.Step.{Outcome, Ruling, refused, sends, counts, Player, afterReading, afterPlacing, ruled, act, step}
 use Rattle.quorum.specs.declared.Settings.{Settings}
 use Rattle.quorum.specs.Settings.{allowed}
 use Rattle.primary.specs.declared.Primary.{Primary}

@@ -5,11 +5,11 @@ use mathlib.Core.Path.{_≡_, refl, ap, _∙_}
 use mathlib.Core.Bool.{true, true≢false}
 use mathlib.Core.List.{List}
 use native.Mathlib.Omega.{arith}
-use Rattle.wire.specs.Rounds.{none}
-use Rattle.wire.specs.Step.{Outcome}
-use Rattle.wire.specs.Verdict.{saysSend}
-use Rattle.wire.proofs.Ladder.{if-elim}
-use Rattle.wire.proofs.Rounds.{rank-none}
+use Rattle.terms.specs.Rounds.{none}
+use Rattle.terms.specs.Verdict.{saysSend}
+use Rattle.terms.proofs.Ladder.{if-elim}
+use Rattle.terms.proofs.Rounds.{rank-none}
+use Rattle.player.specs.Step.{Outcome}
 use Rattle.quorum.specs.declared.Settings.{Settings}
 use Rattle.quorum.specs.Voters.{Mem, older}
 use Rattle.quorum.proofs.Laws.{empty-bit}

@@ -5,14 +5,14 @@ use mathlib.Core.Path.{_≡_, refl, ap, _∙_, subst}
 use mathlib.Core.Bool.{true, false}
 use native.Mathlib.Omega.{arith}
 use borrow.Author.Tests.{eq-eqb, lt-ltb}
-use Rattle.wire.specs.declared.Instance.{Instance}
-use Rattle.wire.specs.declared.Place.{Place}
-use Rattle.wire.specs.declared.Place.the-variants.{At, Nowhere}
-use Rattle.wire.specs.declared.Value.{Value}
-use Rattle.wire.specs.Ladder.{if_then_else_, need_or_then_}
-use Rattle.wire.specs.Step.{placed}
-use Rattle.wire.proofs.Ladder.{need-elim, if-elim, and-true}
-use Rattle.wire.proofs.Steps.{placed-index}
+use Rattle.terms.specs.declared.Instance.{Instance}
+use Rattle.terms.specs.declared.Place.{Place}
+use Rattle.terms.specs.declared.Place.the-variants.{At, Nowhere}
+use Rattle.terms.specs.declared.Value.{Value}
+use Rattle.terms.specs.Ladder.{if_then_else_, need_or_then_}
+use Rattle.terms.specs.Places.{placed}
+use Rattle.terms.proofs.Ladder.{need-elim, if-elim, and-true}
+use Rattle.terms.proofs.Places.{placed-index}
 use Rattle.quorum.specs.declared.Settings.{Settings}
 use Rattle.quorum.specs.Settings.{allowed}
 use Rattle.tally.specs.Tally.{isDecided, possible}

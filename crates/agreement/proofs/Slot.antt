@@ -11,10 +11,10 @@ use mathlib.Core.Path.{_≡_}
 use mathlib.Core.Bool.{false}
 use mathlib.Core.List.{List, []}
 use lib.Dec.{eqb}
-use Rattle.wire.specs.declared.Round.{Round}
-use Rattle.wire.specs.declared.Value.{Value}
-use Rattle.wire.specs.Ladder.{if_then_else_}
-use Rattle.wire.specs.Rounds.{isNone, ownerOf, rank}
+use Rattle.terms.specs.declared.Round.{Round}
+use Rattle.terms.specs.declared.Value.{Value}
+use Rattle.terms.specs.Ladder.{if_then_else_}
+use Rattle.terms.specs.Rounds.{isNone, ownerOf, rank}
 use Rattle.quorum.specs.Quorum.{Member, Quorum}
 use Rattle.quorum.specs.Voters.{Mem}
 use Rattle.acceptor.specs.declared.Cell as acceptors

@@ -7,19 +7,21 @@ use mathlib.Core.Bool.{true, false}
 use mathlib.Core.List.{List, _∷_}
 use native.Mathlib.Omega.{arith}
 use lib.ListN.{getD}
-use Rattle.wire.specs.declared.Instance.{Instance}
+use Rattle.terms.specs.declared.Instance.{Instance}
+use Rattle.terms.specs.declared.Place.the-variants.{At}
+use Rattle.terms.specs.declared.Round.{Round}
+use Rattle.terms.specs.declared.Value.{Value}
+use Rattle.terms.specs.Rounds.{theInstance}
+use Rattle.terms.specs.Verdict.{saysSend}
+use Rattle.terms.proofs.Places.{PlacedBy}
 use Rattle.wire.specs.declared.Message.{Message}
 use Rattle.wire.specs.declared.Message.the-variants as kind
-use Rattle.wire.specs.declared.Place.the-variants.{At}
 use Rattle.wire.specs.declared.Reading.the-variants.{Read}
-use Rattle.wire.specs.declared.Round.{Round}
-use Rattle.wire.specs.declared.Value.{Value}
 use Rattle.wire.specs.Packet.{readPacket, packetOf}
-use Rattle.wire.specs.Rounds.{theInstance}
-use Rattle.wire.specs.Step.{Outcome, unchanged, Player, ruled, step}
-use Rattle.wire.specs.Verdict.{saysSend}
-use Rattle.wire.proofs.Laws.{Writable, RefusedBy, reader-quiet, written-reads}
-use Rattle.wire.proofs.Steps.{PlacedBy, step-elim}
+use Rattle.wire.proofs.Laws.{Writable, RefusedBy, written-reads}
+use Rattle.player.specs.Step.{Outcome, unchanged, Player, ruled, step}
+use Rattle.player.proofs.Numbers.{reader-quiet}
+use Rattle.player.proofs.Steps.{step-elim}
 use Rattle.quorum.specs.declared.Settings.{Settings}
 use Rattle.quorum.specs.Voters.{Mem, older}
 use Rattle.acceptor.specs.Acceptor as acceptors

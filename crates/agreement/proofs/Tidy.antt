@@ -7,11 +7,11 @@ use mathlib.Core.Bool.{Bool, true}
 use mathlib.Core.List.{List, [], _∷_}
 use lib.Dec.{lit<}
 use Rattle.numbers.specs.BigEndian.{Bytes}
-use Rattle.wire.specs.Step.{Outcome, Ruling, refused, sends, counts, Player, ruled, step}
-use Rattle.wire.specs.Verdict.{saysSend}
-use Rattle.wire.proofs.Ladder.{if-elim}
+use Rattle.terms.specs.Verdict.{saysSend}
+use Rattle.terms.proofs.Ladder.{if-elim}
 use Rattle.wire.proofs.Laws.{packet-bytes}
-use Rattle.wire.proofs.Steps.{step-elim}
+use Rattle.player.specs.Step.{Outcome, Ruling, refused, sends, counts, Player, ruled, step}
+use Rattle.player.proofs.Steps.{step-elim}
 use Rattle.quorum.specs.declared.Settings.{Settings}
 use Rattle.quorum.specs.Voters.{Mem}
 use Rattle.primary.specs.Primary as primaries

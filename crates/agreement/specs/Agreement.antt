@@ -5,11 +5,11 @@ use mathlib.Core.Path.{_≡_}
 use mathlib.Core.Bool.{true}
 use mathlib.Core.List.{List, [], _∷_}
 use mathlib.Core.Logic.{_⊎_}
-use Rattle.wire.specs.declared.Instance.{Instance}
+use Rattle.terms.specs.declared.Instance.{Instance}
+use Rattle.terms.specs.declared.Round.{Round}
+use Rattle.terms.specs.declared.Value.{Value}
 use Rattle.wire.specs.declared.Message.the-variants.{Vote}
 use Rattle.wire.specs.declared.Reading.the-variants.{Read}
-use Rattle.wire.specs.declared.Round.{Round}
-use Rattle.wire.specs.declared.Value.{Value}
 use Rattle.wire.specs.Packet.{readPacket}
 use Rattle.quorum.specs.declared.Settings.{Settings}
 use Rattle.quorum.specs.Settings.{allowed}

@@ -7,18 +7,18 @@ use mathlib.Core.Bool.{Bool, true, false, _&&_, _||_}
 use mathlib.Core.List.{List, [], _∷_}
 use lib.Dec.{eqb, ltb}
 use lib.ListN.{replicate}
-use Rattle.wire.specs.declared.Instance.{Instance}
+use Rattle.terms.specs.declared.Instance.{Instance}
+use Rattle.terms.specs.declared.Value.{Value}
+use Rattle.terms.specs.declared.Verdict.the-variants.{ToAcceptors, ToLeader, ToLearners, Hold, Decided}
+use Rattle.terms.specs.Rounds.{theInstance, theRound, none}
+use Rattle.terms.specs.Values.{theValue, null}
+use Rattle.terms.specs.Verdict.{verdictNumber}
 use Rattle.wire.specs.declared.Message.{Message}
 use Rattle.wire.specs.declared.Message.the-variants.{Request, Prepare, Promise, Propose, Vote}
 use Rattle.wire.specs.declared.Reading.{Reading}
 use Rattle.wire.specs.declared.Reading.the-variants.{Read, Refused}
-use Rattle.wire.specs.declared.Value.{Value}
-use Rattle.wire.specs.declared.Verdict.the-variants.{ToAcceptors, ToLeader, ToLearners, Hold, Decided}
 use Rattle.wire.specs.Message.{whenRequest}
 use Rattle.wire.specs.Packet.{packetLength, readPacket, packetOf}
-use Rattle.wire.specs.Rounds.{theInstance, theRound, none}
-use Rattle.wire.specs.Values.{theValue, null}
-use Rattle.wire.specs.Verdict.{verdictNumber}
 use Rattle.quorum.specs.declared.Settings.{Settings}
 use Rattle.primary.specs.Primary.{lentStep}
 use Rattle.acceptor.specs.Acceptor.{acceptorStep}

@@ -7,15 +7,15 @@ use mathlib.Core.List.{List, [], _∷_}
 use lib.Dec.{eqb}
 use lib.ListN.{length}
 use Rattle.numbers.specs.BigEndian.{Bytes}
-use Rattle.wire.specs.declared.Instance.{Instance}
+use Rattle.terms.specs.declared.Instance.{Instance}
+use Rattle.terms.specs.declared.Round.{Round}
+use Rattle.terms.specs.declared.Value.{Value}
+use Rattle.terms.specs.Ladder.{if_then_else_}
+use Rattle.terms.specs.Verdict.{saysSend}
 use Rattle.wire.specs.declared.Message.the-variants.{Request, Vote}
 use Rattle.wire.specs.declared.Reading.the-variants.{Read}
-use Rattle.wire.specs.declared.Round.{Round}
-use Rattle.wire.specs.declared.Value.{Value}
-use Rattle.wire.specs.Ladder.{if_then_else_}
 use Rattle.wire.specs.Packet.{readPacket, Malformed}
-use Rattle.wire.specs.Step.{Outcome}
-use Rattle.wire.specs.Verdict.{saysSend}
+use Rattle.player.specs.Step.{Outcome}
 use Rattle.quorum.specs.declared.Settings.{Settings}
 use Rattle.quorum.specs.Voters.{Mem, Distinct}
 use Rattle.primary.specs.Primary.{lentStep}

@@ -4,10 +4,10 @@
 use mathlib.Core.Path.{_≡_}
 use mathlib.Core.Bool.{true}
 use mathlib.Core.List.{List, [], _∷_}
+use Rattle.terms.specs.declared.Value.{Value}
+use Rattle.terms.specs.Rounds.{theRound, none}
+use Rattle.terms.specs.Values.{null}
 use Rattle.wire.specs.declared.Message.the-variants.{Request, Prepare, Promise, Propose}
-use Rattle.wire.specs.declared.Value.{Value}
-use Rattle.wire.specs.Rounds.{theRound, none}
-use Rattle.wire.specs.Values.{null}
 use Rattle.acceptor.specs.Acceptor as acceptors
 use Rattle.learner.specs.Tables as learners
 use Rattle.agreement.specs.Run.{Boxes, freshBoxes, put, Decided, says, said}

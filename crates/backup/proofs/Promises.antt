@@ -1,5 +1,5 @@
 -- The promises of every call, for the backup's step and start: each acts or refuses by its numbers, a refusal keeps all, no cell but the instance's changes, a
--- possible cell stays possible, and what is sent keeps the packet table. The step's are wire's theorems for any player; the start has the same shape.
+-- possible cell stays possible, and what is sent keeps the packet table. The step's are the theorems of any player; the start has the same shape.
 -- Assumes nothing.
 use Prim.Native.Nat.{ℕ, _+_, _*_, _^_, _<_, max}
 use mathlib.Core.Path.{_≡_, refl, ap, _∙_, subst}
@@ -8,36 +8,38 @@ use mathlib.Core.List.{List, [], _∷_}
 use native.Mathlib.Omega.{arith}
 use lib.Dec.{lit<}
 use lib.ListN.{length-set, length-replicate}
-use Rattle.wire.specs.declared.Instance.{Instance}
+use Rattle.terms.specs.declared.Instance.{Instance}
+use Rattle.terms.specs.declared.Place.the-variants.{At, Nowhere}
+use Rattle.terms.specs.declared.Round.{Round}
+use Rattle.terms.specs.declared.Value.{Value}
+use Rattle.terms.specs.declared.Verdict.the-variants.{ToAcceptors, Hold}
+use Rattle.terms.specs.Rounds.{theRound, ownerOf}
+use Rattle.terms.specs.Places.{placed}
+use Rattle.terms.specs.Verdict.{verdictNumber, isVerdict, saysSend}
+use Rattle.terms.proofs.Columns.{number-there, number-apart, round-there, round-apart, value-there, value-apart, fresh-number, fresh-value, below-set, below-value, below-fresh}
+use Rattle.terms.proofs.Ladder.{if-elim, need-elim}
+use Rattle.terms.proofs.Places.{PlacedBy, placed-index, placed-by}
+use Rattle.terms.proofs.Rounds.{owned-or-0, backup-owned}
+use Rattle.terms.specs.declared.Place.{Place}
 use Rattle.wire.specs.declared.Message.{Message}
 use Rattle.wire.specs.declared.Message.the-variants.{Prepare, Promise, Propose}
-use Rattle.wire.specs.declared.Place.the-variants.{At, Nowhere}
-use Rattle.wire.specs.declared.Round.{Round}
-use Rattle.wire.specs.declared.Value.{Value}
-use Rattle.wire.specs.declared.Verdict.the-variants.{ToAcceptors, Hold}
-use Rattle.wire.specs.Rounds.{theRound, ownerOf}
 use Rattle.wire.specs.Table.{keepsTable}
 use Rattle.wire.specs.Message.{fieldsOf, whenPromise}
-use Rattle.wire.specs.Promises.{OneOf, first, later, packetRefusals, NumbersAre, RefusalKeepsAll, UsesCell, OtherCellsStay, PossibleStays, SendsKept, FittingStays, ActsOrRefuses, refuses}
-use Rattle.wire.specs.Step.{Ruling, placed, Outcome, unchanged, afterPlacing, ruled}
-use Rattle.wire.specs.Verdict.{verdictNumber, isVerdict, saysSend}
-use Rattle.wire.proofs.Columns.{number-there, number-apart, round-there, round-apart, value-there, value-apart, fresh-number, fresh-value, below-set, below-value, below-fresh}
 use Rattle.wire.proofs.Eliminators.{promise-elim}
-use Rattle.wire.proofs.Ladder.{if-elim, need-elim}
-use Rattle.wire.proofs.Laws.{one-of, promise-sender, promise-votes, Writable}
-use Rattle.wire.proofs.Promises.{RuledBy, NextCell, refusal-keeps-all, numbers-are, other-cells-stay, possible-stays, SendsOnly, sends-kept, fitting-stays, ruled-keeps, ruled-numbers, ruled-tables, ruled-sends, any-cell, stored-possible, tables-hold}
-use Rattle.wire.proofs.Steps.{PlacedBy, placed-index, placed-by}
+use Rattle.wire.proofs.Laws.{promise-sender, promise-votes, Writable}
 use Rattle.wire.proofs.Parts.{ValueFits, promise-fits, propose-writable, prepare-writable}
-use Rattle.wire.proofs.Rounds.{owned-or-0, backup-owned}
 use Rattle.wire.specs.Packet.{Kept}
-use Rattle.wire.specs.declared.Place.{Place}
-use Rattle.takeover.proofs.Next.{next-smallest}
+use Rattle.player.specs.Promises.{OneOf, first, later, packetRefusals, NumbersAre, RefusalKeepsAll, UsesCell, OtherCellsStay, PossibleStays, SendsKept, FittingStays, ActsOrRefuses, refuses}
+use Rattle.player.specs.Step.{Ruling, Outcome, unchanged, afterPlacing, ruled}
+use Rattle.player.proofs.Numbers.{one-of}
+use Rattle.player.proofs.Promises.{RuledBy, NextCell, refusal-keeps-all, numbers-are, other-cells-stay, possible-stays, SendsOnly, sends-kept, fitting-stays, ruled-keeps, ruled-numbers, ruled-tables, ruled-sends, any-cell, stored-possible, tables-hold}
 use Rattle.quorum.specs.declared.Settings.{Settings}
 use Rattle.quorum.specs.Quorum.{hasMember}
+use Rattle.takeover.proofs.Next.{next-smallest}
 use Rattle.takeover.specs.declared.Cell.{Cell}
 use Rattle.takeover.specs.Takeover.{idle, asking, freshCell, possible, counting, chosen, whenMajority, rule, started, start, nextRound}
-use Rattle.backup.specs.Backup.{Tables, freshTables, cellAt, withCell, backup, backupStep, Sized, Within, backupAllowed, backupStart, Fitting}
 use Rattle.takeover.proofs.Laws.{same-cell, rule-elim, asking-started, counted, counted-possible, FitsCell, null-fits, counting-fits, closed-fits, chosen-fits, start-rule-elim, started-possible}
+use Rattle.backup.specs.Backup.{Tables, freshTables, cellAt, withCell, backup, backupStep, Sized, Within, backupAllowed, backupStart, Fitting}
 use Rattle.backup.proofs.Ways.{allowed-tables, index-within}
 
 -- ---- cells and tables

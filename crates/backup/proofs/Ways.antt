@@ -10,25 +10,26 @@ use types.Run.{OneOf}
 use lib.Dec.{eqb, leb}
 use lib.ListN.{length}
 use borrow.Author.Tests.{not-true, not-false, eqb-true, leb-true, eq-eqb, ne-eqb}
-use Rattle.wire.specs.declared.Instance.{Instance}
+use Rattle.terms.specs.declared.Instance.{Instance}
+use Rattle.terms.specs.declared.Place.{Place}
+use Rattle.terms.specs.declared.Place.the-variants.{At, Nowhere}
+use Rattle.terms.specs.declared.Round.{Round}
+use Rattle.terms.specs.declared.Value.{Value}
+use Rattle.terms.specs.declared.Verdict.the-variants.{ToAcceptors, Hold}
+use Rattle.terms.specs.Places.{placed, nowhereOf}
+use Rattle.terms.specs.Verdict.{verdictNumber}
+use Rattle.terms.proofs.Ladder.{both-true, need-passed, need-failed}
+use Rattle.terms.proofs.Places.{placed-index}
 use Rattle.wire.specs.declared.Message.{Message}
 use Rattle.wire.specs.declared.Message.the-variants.{Promise}
-use Rattle.wire.specs.declared.Place.{Place}
-use Rattle.wire.specs.declared.Place.the-variants.{At, Nowhere}
 use Rattle.wire.specs.declared.Reading.{Reading}
 use Rattle.wire.specs.declared.Reading.the-variants.{Read, Refused}
-use Rattle.wire.specs.declared.Round.{Round}
-use Rattle.wire.specs.declared.Value.{Value}
-use Rattle.wire.specs.declared.Verdict.the-variants.{ToAcceptors, Hold}
 use Rattle.wire.specs.Message.{whenPromise}
 use Rattle.wire.specs.Packet.{packetLength, readPacket, refusalOf, withMessage}
-use Rattle.wire.specs.Step.{Outcome, outcome, unchanged, placed, nowhereOf, afterPlacing, ruled, act}
-use Rattle.wire.specs.Verdict.{verdictNumber}
 use Rattle.wire.proofs.Eliminators.{no-promise}
-use Rattle.wire.proofs.Ladder.{both-true, need-passed, need-failed}
 use Rattle.wire.proofs.Message.{the-type}
-use Rattle.wire.proofs.Steps as steps
-use Rattle.wire.proofs.Steps.{placed-index}
+use Rattle.player.specs.Step.{Outcome, outcome, unchanged, afterPlacing, ruled, act}
+use Rattle.player.proofs.Steps as steps
 use Rattle.quorum.specs.declared.Settings.{Settings}
 use Rattle.quorum.specs.Settings.{allowed}
 use Rattle.quorum.proofs.Laws as quorums

@@ -6,14 +6,15 @@ use mathlib.Core.Bool.{Bool, _&&_}
 use mathlib.Core.List.{List}
 use lib.Dec.{eqb, leb}
 use lib.ListN.{length, getD, set, replicate}
-use Rattle.wire.specs.declared.Instance.{Instance}
-use Rattle.wire.specs.declared.Place.the-variants.{Nowhere}
-use Rattle.wire.specs.declared.Value.{Value}
-use Rattle.wire.specs.Ladder.{need_or_then_}
+use Rattle.terms.specs.declared.Instance.{Instance}
+use Rattle.terms.specs.declared.Place.the-variants.{Nowhere}
+use Rattle.terms.specs.declared.Value.{Value}
+use Rattle.terms.specs.Ladder.{need_or_then_}
+use Rattle.terms.specs.Places.{placed}
+use Rattle.terms.specs.Columns.{roundAt, withRound, valueAt, withValue, Below}
 use Rattle.wire.specs.Message.{whenPromise}
 use Rattle.wire.specs.Packet.{packetLength}
-use Rattle.wire.specs.Step.{Outcome, unchanged, placed, Player, afterPlacing, ruled, step}
-use Rattle.wire.specs.Columns.{roundAt, withRound, valueAt, withValue, Below}
+use Rattle.player.specs.Step.{Outcome, unchanged, Player, afterPlacing, ruled, step}
 use Rattle.quorum.specs.declared.Settings.{Settings}
 use Rattle.quorum.specs.Settings.{allowed}
 use Rattle.takeover.specs.declared.Cell.{Cell}

@@ -1,23 +1,23 @@
 // A backup leader: started by hand, it asks the acceptors for promises, and at a majority proposes.
 ghost use mathlib.Core.Path.{_≡_};
 ghost use lib.ListN.{length};
-ghost use Rattle.wire.specs.Rounds.{theInstance};
-ghost use Rattle.wire.specs.Values.{theValue};
+ghost use Rattle.terms.specs.Rounds.{theInstance};
+ghost use Rattle.terms.specs.Values.{theValue};
 ghost use Rattle.wire.specs.Packet.{packetLength};
-ghost use Rattle.wire.specs.Step.{outcome, ruled};
+ghost use Rattle.player.specs.Step.{outcome, ruled};
 ghost use Rattle.quorum.specs.Settings.{settings};
 ghost use Rattle.takeover.specs.Takeover.{rulingOf};
 ghost use Rattle.backup.specs.Backup.{tables, cellAt, withCell, ownAllowed, sizesAllowed, backupStep, backupStart, Within};
 use quorum::Settings;
 use takeover::Cell;
 use takeover::Ruled;
-use wire::Instance;
+use terms::Instance;
+use terms::Place;
+use terms::Round;
+use terms::Value;
+use terms::Verdict;
 use wire::Message;
-use wire::Place;
 use wire::Reading;
-use wire::Round;
-use wire::Value;
-use wire::Verdict;
 
 // The own number is 1 to 3, whatever M is.
 fn own_allowed(settings: Settings, own: u32) -> bool
@@ -128,7 +128,7 @@ fn carry_out(
                 index,
                 cell,
             );
-            wire::verdict_number(Verdict::Hold)
+            terms::verdict_number(Verdict::Hold)
         }
         Ruled::Sent { cell, message } => {
             store_cell(
@@ -142,7 +142,7 @@ fn carry_out(
                 cell,
             );
             wire::put_message(packet, message);
-            wire::verdict_number(Verdict::ToAcceptors)
+            terms::verdict_number(Verdict::ToAcceptors)
         }
     }
 }
@@ -188,9 +188,9 @@ pub extern "C" fn myrthakel_backup_start(
     if buffer.len() != wire::PACKET_LENGTH {
         return 1;
     }
-    let place = wire::place_of(instances, Instance(instance));
+    let place = terms::place_of(instances, Instance(instance));
     let Place::At(index) = place else {
-        return wire::nowhere(place);
+        return terms::nowhere(place);
     };
     let cell = cell_at(
         rounds,
@@ -272,9 +272,9 @@ pub extern "C" fn myrthakel_backup_step(
     else {
         return 6;
     };
-    let place = wire::place_of(instances, instance);
+    let place = terms::place_of(instances, instance);
     let Place::At(index) = place else {
-        return wire::nowhere(place);
+        return terms::nowhere(place);
     };
     let cell = cell_at(
         rounds,

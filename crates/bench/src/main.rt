@@ -5,8 +5,8 @@ ghost use lib.ListN.{length};
 ghost use Rattle.bench.specs.Bench.{freshVoteRounds};
 use libc::STDIN_FILENO;
 use libc::STDOUT_FILENO;
-use wire::Value;
-use wire::Verdict;
+use terms::Value;
+use terms::Verdict;
 
 const ACCEPTORS: u32 = 3;
 
@@ -310,23 +310,23 @@ fn print_player(command: Command) {
 }
 
 fn print_verdict(answer: u32) {
-    if answer == wire::verdict_number(Verdict::ToAcceptors) {
+    if answer == terms::verdict_number(Verdict::ToAcceptors) {
         io::write_all(STDOUT_FILENO, b" acceptors ");
         return;
     }
-    if answer == wire::verdict_number(Verdict::ToLeader) {
+    if answer == terms::verdict_number(Verdict::ToLeader) {
         io::write_all(STDOUT_FILENO, b" leader ");
         return;
     }
-    if answer == wire::verdict_number(Verdict::ToLearners) {
+    if answer == terms::verdict_number(Verdict::ToLearners) {
         io::write_all(STDOUT_FILENO, b" learners ");
         return;
     }
-    if answer == wire::verdict_number(Verdict::Hold) {
+    if answer == terms::verdict_number(Verdict::Hold) {
         io::write_all(STDOUT_FILENO, b" hold ");
         return;
     }
-    if answer == wire::verdict_number(Verdict::Decided) {
+    if answer == terms::verdict_number(Verdict::Decided) {
         io::write_all(STDOUT_FILENO, b" decided ");
         return;
     }
@@ -371,7 +371,7 @@ fn print_line(command: Command, answer: u32, packet: &[u8; 36]) {
 fn fresh_vote_rounds() -> [u32; 1024]
     ensures { λ r. ⌜ r ≡ freshVoteRounds ⌝ }
 {
-    [wire::NONE; 1024]
+    [terms::NONE; 1024]
 }
 
 fn give_to_acceptor(
@@ -606,10 +606,10 @@ fn main() {
     let mut backup_rounds = [0u32; 3072];
     let mut phases = [0u8; 3072];
     let mut promisers = [0u8; 3072];
-    let mut best_vote_rounds = [wire::NONE; 3072];
+    let mut best_vote_rounds = [terms::NONE; 3072];
     let mut best_values = [0u64; 6144];
     let mut own_values = [0u64; 6144];
-    let mut learner_rounds = [wire::NONE; 1024];
+    let mut learner_rounds = [terms::NONE; 1024];
     let mut voters = [0u8; 1024];
     let mut learner_values = [0u64; 2048];
     io::write_all(STDOUT_FILENO, b"player verdict packet\n");

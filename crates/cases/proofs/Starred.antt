@@ -3,17 +3,19 @@
 use mathlib.Core.Path.{refl}
 use lib.Count.{ones}
 use Rattle.numbers.specs.BigEndian.{numberAt}
-use Rattle.wire.specs.Ladder.{if_then_else_, need_or_then_}
-use Rattle.wire.specs.Rounds.{ownerOf, ownedOr0, ownedNot0, rank, atMost}
-use Rattle.wire.specs.Table.{prepareRow, promiseRow, proposeRow, voteRow, tableRow, keepsTable, isVoteBy}
+use Rattle.terms.specs.Ladder.{if_then_else_, need_or_then_}
+use Rattle.terms.specs.Rounds.{ownerOf, ownedOr0, ownedNot0, rank, atMost}
+use Rattle.terms.specs.Votes.{isVoteBy}
+use Rattle.terms.specs.Places.{placed}
+use Rattle.wire.specs.Table.{prepareRow, promiseRow, proposeRow, voteRow, tableRow, keepsTable}
 use Rattle.wire.specs.Message.{messageOf, fieldsOf, whenPrepare, whenPromise, whenPropose, whenVote}
 use Rattle.wire.specs.Packet.{fieldsIn, readPacket, packetWith, packetOf}
-use Rattle.wire.specs.Step.{placed, afterReading, afterPlacing, ruled, act, step}
+use Rattle.player.specs.Step.{afterReading, afterPlacing, ruled, act, step}
 use Rattle.quorum.specs.Settings.{acceptorsAllowed, instancesAllowed, allowed}
 use Rattle.quorum.specs.Quorum.{majority, bit, hasMember, withMember, within, reaches}
 use Rattle.acceptor.specs.Acceptor as acceptors
-use Rattle.backup.specs.Backup as backups
 use Rattle.takeover.specs.Takeover as takeovers
+use Rattle.backup.specs.Backup as backups
 use Rattle.tally.specs.Tally as tallies
 use Rattle.tally.specs.Counting.{whenDecided, added, vote}
 use Rattle.learner.specs.Tables.{sizesAllowed}

@@ -6,21 +6,21 @@ use Prim.Native.Nat.{ℕ}
 use mathlib.Core.Path.{_≡_}
 use mathlib.Core.List.{List, [], _∷_}
 use lib.ListN.{replicate}
-use Rattle.wire.specs.declared.Instance.{Instance}
+use Rattle.terms.specs.declared.Instance.{Instance}
+use Rattle.terms.specs.declared.Value.{Value}
+use Rattle.terms.specs.declared.Verdict.{Verdict}
+use Rattle.terms.specs.declared.Verdict.the-variants.{ToAcceptors, ToLeader, ToLearners, Hold, Decided}
+use Rattle.terms.specs.Rounds.{theInstance, theRound, none}
+use Rattle.terms.specs.Values.{theValue, null}
+use Rattle.terms.specs.Verdict.{verdictNumber}
 use Rattle.wire.specs.declared.Message.{Message}
 use Rattle.wire.specs.declared.Message.the-variants.{Prepare, Promise, Propose, Vote}
-use Rattle.wire.specs.declared.Value.{Value}
-use Rattle.wire.specs.declared.Verdict.{Verdict}
-use Rattle.wire.specs.declared.Verdict.the-variants.{ToAcceptors, ToLeader, ToLearners, Hold, Decided}
 use Rattle.wire.specs.Packet.{packetOf}
-use Rattle.wire.specs.Rounds.{theInstance, theRound, none}
-use Rattle.wire.specs.Step.{Outcome, outcome, unchanged}
-use Rattle.wire.specs.Values.{theValue, null}
-use Rattle.wire.specs.Verdict.{verdictNumber}
+use Rattle.player.specs.Step.{Outcome, outcome, unchanged}
 use Rattle.quorum.specs.Settings.{settings}
 use Rattle.acceptor.specs.Acceptor as acceptors
-use Rattle.backup.specs.Backup as backups
 use Rattle.takeover.specs.Takeover as takeovers
+use Rattle.backup.specs.Backup as backups
 use Rattle.tally.specs.Tally.{tally}
 use Rattle.learner.specs.declared.Answer.{Answer}
 use Rattle.learner.specs.declared.Answer.the-variants as answers

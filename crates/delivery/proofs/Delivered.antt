@@ -6,14 +6,14 @@ use mathlib.Core.Bool.{Bool, true, false, false≢true}
 use mathlib.Core.List.{List, [], _∷_}
 use native.Mathlib.Omega.{arith}
 use lib.ListN.{length, getD}
-use Rattle.wire.specs.declared.Value.{Value}
-use Rattle.wire.specs.declared.Verdict.the-variants.{Done}
-use Rattle.wire.specs.Promises.{first, NumbersAre, RefusalKeepsAll, ActsOrRefuses, refuses, acts}
-use Rattle.wire.specs.Step.{Outcome, unchanged}
-use Rattle.wire.specs.Values.{null}
-use Rattle.wire.specs.Verdict.{verdictNumber, isVerdict}
-use Rattle.wire.proofs.Ladder.{by-test, need-elim, if-true, if-false}
-use Rattle.wire.proofs.Laws.{one-of}
+use Rattle.terms.specs.declared.Value.{Value}
+use Rattle.terms.specs.declared.Verdict.the-variants.{Done}
+use Rattle.terms.specs.Values.{null}
+use Rattle.terms.specs.Verdict.{verdictNumber, isVerdict}
+use Rattle.terms.proofs.Ladder.{by-test, need-elim, if-true, if-false}
+use Rattle.player.specs.Promises.{first, NumbersAre, RefusalKeepsAll, ActsOrRefuses, refuses, acts}
+use Rattle.player.specs.Step.{Outcome, unchanged}
+use Rattle.player.proofs.Numbers.{one-of}
 use Rattle.quorum.specs.declared.Settings.{Settings}
 use Rattle.tally.specs.Tally.{isDecided}
 use Rattle.learner.specs.Tables.{Tables, cellAt, cellsFrom, cells}

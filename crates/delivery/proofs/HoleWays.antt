@@ -4,17 +4,17 @@ use Prim.Native.Nat.{ℕ, _+_, _≤_, _<_}
 use mathlib.Core.Path.{_≡_, sym, ap, _∙_}
 use mathlib.Core.Bool.{Bool, true, false, not}
 use borrow.Author.Tests.{not-true, not-false}
-use Rattle.wire.specs.declared.Verdict.the-variants.{Done, NoHole}
-use Rattle.wire.specs.Ladder.{if_then_else_, need_or_then_}
-use Rattle.wire.specs.Rounds.{theInstance}
-use Rattle.wire.proofs.Ladder.{if-true, if-false}
-use Rattle.wire.specs.Verdict.{verdictNumber}
+use Rattle.terms.specs.declared.Verdict.the-variants.{Done, NoHole}
+use Rattle.terms.specs.Ladder.{if_then_else_, need_or_then_}
+use Rattle.terms.specs.Rounds.{theInstance}
+use Rattle.terms.proofs.Ladder.{if-true, if-false}
+use Rattle.terms.specs.Verdict.{verdictNumber}
+use Rattle.terms.specs.declared.Instance.{Instance}
 use Rattle.quorum.specs.declared.Settings.{Settings}
 use Rattle.tally.specs.declared.Tally.{Tally}
 use Rattle.tally.specs.Tally.{isDecided}
 use Rattle.learner.specs.Tables.{Tables, cellAt, cellsFrom, cells, learnerAllowed, allPossible}
 use Rattle.learner.proofs.Cells.{cellsLeft, cells-all, cells-next, cells-end}
-use Rattle.wire.specs.declared.Instance.{Instance}
 use Rattle.delivery.specs.declared.Hole.{Hole}
 use Rattle.delivery.specs.declared.Hole.the-variants as holes
 use Rattle.delivery.specs.Holes.{decidedEndFrom, decidedEnd, isHole, firstHoleFrom, firstHole, hole, found, finding}

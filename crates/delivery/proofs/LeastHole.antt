@@ -10,12 +10,12 @@ use native.Mathlib.Numerals.{add-one}
 use native.Mathlib.Omega.{arith}
 use lib.Dec.{ltb}
 use borrow.Author.Tests.{not-true, ltb-true, lt-ltb}
-use Rattle.wire.specs.declared.Verdict.the-variants.{Done, NoHole}
-use Rattle.wire.specs.Ladder.{if_then_else_}
-use Rattle.wire.specs.Promises.{OneOf, first, later}
-use Rattle.wire.specs.Rounds.{theInstance}
-use Rattle.wire.specs.Verdict.{verdictNumber}
-use Rattle.wire.proofs.Ladder.{by-test, both-true, and-true, need-elim, if-true, if-false}
+use Rattle.terms.specs.declared.Verdict.the-variants.{Done, NoHole}
+use Rattle.terms.specs.Ladder.{if_then_else_}
+use Rattle.terms.specs.Rounds.{theInstance}
+use Rattle.terms.specs.Verdict.{verdictNumber}
+use Rattle.terms.proofs.Ladder.{by-test, both-true, and-true, need-elim, if-true, if-false}
+use Rattle.player.specs.Promises.{OneOf, first, later}
 use Rattle.quorum.specs.declared.Settings.{Settings}
 use Rattle.tally.specs.Tally.{isDecided}
 use Rattle.learner.specs.Tables.{Tables, cellAt, cellsFrom, cells}

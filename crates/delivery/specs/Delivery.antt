@@ -8,12 +8,12 @@ use lib.Dec.{eqb}
 use lib.ListN.{length, getD}
 use Rattle.numbers.specs.BigEndian.{toBytes}
 use Rattle.numbers.specs.Fronts.{withFront}
-use Rattle.wire.specs.declared.Value.{Value}
-use Rattle.wire.specs.declared.Verdict.the-variants.{Done}
-use Rattle.wire.specs.Ladder.{if_then_else_, need_or_then_}
-use Rattle.wire.specs.Values.{null}
-use Rattle.wire.specs.Step.{Outcome, outcome}
-use Rattle.wire.specs.Verdict.{verdictNumber}
+use Rattle.terms.specs.declared.Value.{Value}
+use Rattle.terms.specs.declared.Verdict.the-variants.{Done}
+use Rattle.terms.specs.Ladder.{if_then_else_, need_or_then_}
+use Rattle.terms.specs.Values.{null}
+use Rattle.terms.specs.Verdict.{verdictNumber}
+use Rattle.player.specs.Step.{Outcome, outcome}
 use Rattle.quorum.specs.declared.Settings.{Settings}
 use Rattle.tally.specs.declared.Tally.{Tally}
 use Rattle.tally.specs.Tally.{isDecided}

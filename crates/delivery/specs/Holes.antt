@@ -5,10 +5,10 @@ use mathlib.Core.Path.{_≡_}
 use mathlib.Core.Bool.{Bool, true, false, not, _&&_}
 use mathlib.Core.List.{List, [], _∷_}
 use lib.Dec.{ltb}
-use Rattle.wire.specs.declared.Verdict.the-variants.{Done, NoHole}
-use Rattle.wire.specs.Ladder.{if_then_else_, need_or_then_}
-use Rattle.wire.specs.Rounds.{theInstance}
-use Rattle.wire.specs.Verdict.{verdictNumber}
+use Rattle.terms.specs.declared.Verdict.the-variants.{Done, NoHole}
+use Rattle.terms.specs.Ladder.{if_then_else_, need_or_then_}
+use Rattle.terms.specs.Rounds.{theInstance}
+use Rattle.terms.specs.Verdict.{verdictNumber}
 use Rattle.quorum.specs.declared.Settings.{Settings}
 use Rattle.tally.specs.declared.Tally.{Tally}
 use Rattle.tally.specs.Tally.{isDecided}

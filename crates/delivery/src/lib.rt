@@ -2,16 +2,16 @@
 ghost use mathlib.Core.Path.{_≡_};
 ghost use Prim.Native.Nat.{_*_};
 ghost use lib.ListN.{length};
-ghost use Rattle.wire.specs.Verdict.{verdictNumber};
-ghost use Rattle.wire.specs.declared.Verdict.the-variants.{Done};
+ghost use Rattle.terms.specs.Verdict.{verdictNumber};
+ghost use Rattle.terms.specs.declared.Verdict.the-variants.{Done};
 ghost use Rattle.quorum.specs.Settings.{settings};
 ghost use Rattle.learner.specs.Tables.{tables, cellsFrom};
 ghost use Rattle.delivery.specs.Delivery.{delivered, delivery, delivering, deliver};
 ghost use Rattle.delivery.specs.Holes.{decidedEnd, isHole, firstHole, hole, found, finding};
 use quorum::Settings;
 use tally::Tally;
-use wire::Instance;
-use wire::Verdict;
+use terms::Instance;
+use terms::Verdict;
 
 // The first hole.
 pub enum Hole {
@@ -76,7 +76,7 @@ pub extern "C" fn myrthakel_learner_deliver(
         return 17;
     }
     *count = write_delivered(acceptors, instances, rounds, sets, values, buffer);
-    wire::verdict_number(Verdict::Done)
+    terms::verdict_number(Verdict::Done)
 }
 
 // ---- holes
@@ -149,9 +149,9 @@ pub extern "C" fn myrthakel_learner_first_hole(
     match find_hole(settings, rounds, sets, values) {
         Hole::At(number) => {
             *instance = number.0;
-            wire::verdict_number(Verdict::Done)
+            terms::verdict_number(Verdict::Done)
         }
-        Hole::Nowhere => wire::verdict_number(Verdict::NoHole),
+        Hole::Nowhere => terms::verdict_number(Verdict::NoHole),
         Hole::Refused(number) => number,
     }
 }

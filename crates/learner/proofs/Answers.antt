@@ -3,17 +3,17 @@
 use Prim.Native.Nat.{ℕ}
 use mathlib.Core.Path.{_≡_, refl}
 use mathlib.Core.List.{List, [], _∷_}
-use Rattle.wire.specs.declared.Instance.{Instance}
-use Rattle.wire.specs.declared.Place.{Place}
-use Rattle.wire.specs.declared.Place.the-variants.{At, Nowhere}
-use Rattle.wire.specs.declared.Value.{Value}
-use Rattle.wire.specs.declared.Verdict.the-variants.{Done, NotYet}
-use Rattle.wire.specs.Promises.{OneOf}
-use Rattle.wire.specs.Step.{placed}
-use Rattle.wire.specs.Verdict.{verdictNumber}
-use Rattle.wire.proofs.Ladder.{need-elim, if-elim}
-use Rattle.wire.proofs.Laws.{one-of}
-use Rattle.wire.proofs.Steps.{PlacedBy, placed-by}
+use Rattle.terms.specs.declared.Instance.{Instance}
+use Rattle.terms.specs.declared.Place.{Place}
+use Rattle.terms.specs.declared.Place.the-variants.{At, Nowhere}
+use Rattle.terms.specs.declared.Value.{Value}
+use Rattle.terms.specs.declared.Verdict.the-variants.{Done, NotYet}
+use Rattle.terms.specs.Places.{placed}
+use Rattle.terms.specs.Verdict.{verdictNumber}
+use Rattle.terms.proofs.Ladder.{need-elim, if-elim}
+use Rattle.terms.proofs.Places.{PlacedBy, placed-by}
+use Rattle.player.specs.Promises.{OneOf}
+use Rattle.player.proofs.Numbers.{one-of}
 use Rattle.quorum.specs.declared.Settings.{Settings}
 use Rattle.learner.specs.declared.Answer.{Answer}
 use Rattle.learner.specs.declared.Answer.the-variants as answers

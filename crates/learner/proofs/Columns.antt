@@ -6,9 +6,9 @@ use mathlib.Core.List.{List}
 use native.Mathlib.Omega.{arith}
 use lib.ListN.{length, getD, set, List·getD-eq-default}
 use lib.Seq.{set-out}
-use Rattle.wire.specs.declared.Value.{Value}
-use Rattle.wire.specs.Values.{null}
-use Rattle.wire.specs.Columns.{valueAt, withValue}
+use Rattle.terms.specs.declared.Value.{Value}
+use Rattle.terms.specs.Values.{null}
+use Rattle.terms.specs.Columns.{valueAt, withValue}
 
 pub reads-0 : (numbers : List ℕ) (index : ℕ) → length numbers ≤ index → 0 ≡ getD numbers index 0
 reads-0 numbers index past = sym (List·getD-eq-default numbers 0 {n = index} past)

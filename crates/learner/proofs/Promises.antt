@@ -1,5 +1,5 @@
 -- The promises of every call, for the learner's step: it acts or refuses by its numbers, a refusal keeps all, no cell but the instance's changes, a possible
--- cell stays possible, and nothing is sent. They are wire's theorems for any player, from the laws of a tally. A decided cell never moves again.
+-- cell stays possible, and nothing is sent. They are the theorems of any player, from the laws of a tally. A decided cell never moves again.
 -- Assumes nothing.
 use Prim.Native.Nat.{ℕ, _+_, _*_, _^_, _<_}
 use mathlib.Core.Path.{_≡_, refl, sym, ap, _∙_, subst}
@@ -9,24 +9,27 @@ use native.Mathlib.Decide.{ℕ-discrete}
 use native.Mathlib.Omega.{arith}
 use lib.Dec.{lit<}
 use lib.ListN.{length-replicate}
+use Rattle.terms.specs.declared.Place.the-variants.{At, Nowhere}
+use Rattle.terms.specs.declared.Round.{Round}
+use Rattle.terms.specs.declared.Verdict.the-variants.{Hold, Decided}
+use Rattle.terms.specs.Rounds.{theRound}
+use Rattle.terms.specs.Places.{placed}
+use Rattle.terms.specs.Verdict.{verdictNumber}
+use Rattle.terms.proofs.Columns.{number-there, number-apart, round-there, round-apart, value-there, value-apart, fresh-number, fresh-value, below-set, below-value, below-fresh}
+use Rattle.terms.proofs.Ladder.{if-elim}
+use Rattle.terms.proofs.Places.{PlacedBy, placed-index, placed-by}
 use Rattle.wire.specs.declared.Message.{Message}
 use Rattle.wire.specs.declared.Message.the-variants.{Vote}
-use Rattle.wire.specs.declared.Place.the-variants.{At, Nowhere}
-use Rattle.wire.specs.declared.Round.{Round}
-use Rattle.wire.specs.declared.Verdict.the-variants.{Hold, Decided}
 use Rattle.wire.specs.Message.{fieldsOf, whenVote}
-use Rattle.wire.specs.Promises.{OneOf, first, later, packetRefusals, NumbersAre, RefusalKeepsAll, UsesCell, OtherCellsStay, PossibleStays, FittingStays}
-use Rattle.wire.specs.Rounds.{theRound}
-use Rattle.wire.specs.Step.{Ruling, refused, sends, counts, placed, ruled}
 use Rattle.wire.specs.Table.{keepsTable}
-use Rattle.wire.specs.Verdict.{verdictNumber}
-use Rattle.wire.proofs.Columns.{number-there, number-apart, round-there, round-apart, value-there, value-apart, fresh-number, fresh-value, below-set, below-value, below-fresh}
 use Rattle.wire.proofs.Eliminators.{vote-elim}
-use Rattle.wire.proofs.Ladder.{if-elim}
-use Rattle.wire.proofs.Laws.{one-of, vote-sender, vote-owned, Writable}
+use Rattle.wire.proofs.Laws.{vote-sender, vote-owned, Writable}
 use Rattle.wire.proofs.Parts.{vote-fits, vote-value-fits}
-use Rattle.wire.proofs.Promises.{RuledBy, NextCell, next-cell, refusal-keeps-all, numbers-are, tables-hold, any-cell, other-cells-stay, possible-stays, fitting-stays}
-use Rattle.wire.proofs.Steps.{PlacedBy, placed-index, placed-by, step-elim}
+use Rattle.player.specs.Promises.{OneOf, first, later, packetRefusals, NumbersAre, RefusalKeepsAll, UsesCell, OtherCellsStay, PossibleStays, FittingStays}
+use Rattle.player.specs.Step.{Ruling, refused, sends, counts, ruled}
+use Rattle.player.proofs.Numbers.{one-of}
+use Rattle.player.proofs.Promises.{RuledBy, NextCell, next-cell, refusal-keeps-all, numbers-are, tables-hold, any-cell, other-cells-stay, possible-stays, fitting-stays}
+use Rattle.player.proofs.Steps.{step-elim}
 use Rattle.quorum.specs.declared.Settings.{Settings}
 use Rattle.tally.specs.declared.Tally.{Tally}
 use Rattle.tally.specs.Tally.{freshTally, isDecided, possible}

@@ -4,7 +4,7 @@ use Prim.Native.Nat.{ℕ}
 use mathlib.Core.Path.{_∙_}
 use mathlib.Core.List.{List}
 use lib.ListN.{length-set}
-use Rattle.wire.proofs.Promises.{tables-hold, any-cell}
+use Rattle.player.proofs.Promises.{tables-hold, any-cell}
 use Rattle.quorum.specs.declared.Settings.{Settings}
 use Rattle.tally.specs.declared.Tally.{Tally}
 use Rattle.learner.specs.Tables.{Tables, cellAt, withCell, Sized}

@@ -10,25 +10,26 @@ use types.Run.{OneOf}
 use lib.Dec.{eqb}
 use lib.ListN.{length}
 use borrow.Author.Tests.{not-true, not-false, eqb-true}
-use Rattle.wire.specs.declared.Instance.{Instance}
+use Rattle.terms.specs.declared.Instance.{Instance}
+use Rattle.terms.specs.declared.Place.{Place}
+use Rattle.terms.specs.declared.Place.the-variants.{At, Nowhere}
+use Rattle.terms.specs.declared.Round.{Round}
+use Rattle.terms.specs.declared.Value.{Value}
+use Rattle.terms.specs.declared.Verdict.the-variants.{Hold, Decided, Done, NotYet}
+use Rattle.terms.specs.Places.{placed, nowhereOf}
+use Rattle.terms.specs.Verdict.{verdictNumber}
+use Rattle.terms.specs.Ladder.{if_then_else_, need_or_then_}
+use Rattle.terms.proofs.Ladder.{both-true}
 use Rattle.wire.specs.declared.Message.{Message}
 use Rattle.wire.specs.declared.Message.the-variants.{Vote}
-use Rattle.wire.specs.declared.Place.{Place}
-use Rattle.wire.specs.declared.Place.the-variants.{At, Nowhere}
 use Rattle.wire.specs.declared.Reading.{Reading}
 use Rattle.wire.specs.declared.Reading.the-variants.{Read, Refused}
-use Rattle.wire.specs.declared.Round.{Round}
-use Rattle.wire.specs.declared.Value.{Value}
-use Rattle.wire.specs.declared.Verdict.the-variants.{Hold, Decided, Done, NotYet}
 use Rattle.wire.specs.Message.{whenVote}
 use Rattle.wire.specs.Packet.{readPacket, refusalOf}
-use Rattle.wire.specs.Step.{Outcome, outcome, unchanged, placed, nowhereOf, ruled, act}
-use Rattle.wire.specs.Verdict.{verdictNumber}
 use Rattle.wire.proofs.Eliminators.{no-vote}
-use Rattle.wire.specs.Ladder.{if_then_else_, need_or_then_}
-use Rattle.wire.proofs.Ladder.{both-true}
 use Rattle.wire.proofs.Message.{the-type}
-use Rattle.wire.proofs.Steps as steps
+use Rattle.player.specs.Step.{Outcome, outcome, unchanged, ruled, act}
+use Rattle.player.proofs.Steps as steps
 use Rattle.quorum.specs.declared.Settings.{Settings}
 use Rattle.quorum.specs.Settings.{allowed}
 use Rattle.quorum.proofs.Laws as quorums

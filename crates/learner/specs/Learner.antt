@@ -2,16 +2,17 @@
 -- Assumes nothing.
 use Prim.Native.Nat.{ℕ}
 use mathlib.Core.List.{List}
-use Rattle.wire.specs.declared.Instance.{Instance}
+use Rattle.terms.specs.declared.Instance.{Instance}
+use Rattle.terms.specs.declared.Place.{Place}
+use Rattle.terms.specs.declared.Place.the-variants.{At, Nowhere}
+use Rattle.terms.specs.declared.Value.{Value}
+use Rattle.terms.specs.declared.Verdict.the-variants.{Done, NotYet}
+use Rattle.terms.specs.Ladder.{if_then_else_, need_or_then_}
+use Rattle.terms.specs.Places.{placed}
+use Rattle.terms.specs.Verdict.{verdictNumber}
 use Rattle.wire.specs.declared.Message.{Message}
-use Rattle.wire.specs.declared.Place.{Place}
-use Rattle.wire.specs.declared.Place.the-variants.{At, Nowhere}
-use Rattle.wire.specs.declared.Value.{Value}
-use Rattle.wire.specs.declared.Verdict.the-variants.{Done, NotYet}
-use Rattle.wire.specs.Ladder.{if_then_else_, need_or_then_}
 use Rattle.wire.specs.Message.{whenVote}
-use Rattle.wire.specs.Step.{Outcome, Ruling, refused, placed, Player, step}
-use Rattle.wire.specs.Verdict.{verdictNumber}
+use Rattle.player.specs.Step.{Outcome, Ruling, refused, Player, step}
 use Rattle.quorum.specs.declared.Settings.{Settings}
 use Rattle.tally.specs.declared.Tally.{Tally}
 use Rattle.tally.specs.Tally.{isDecided, possible}

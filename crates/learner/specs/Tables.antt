@@ -6,7 +6,7 @@ use mathlib.Core.Bool.{Bool, true, _&&_}
 use mathlib.Core.List.{List, [], _∷_}
 use lib.Dec.{eqb}
 use lib.ListN.{length, getD, set, replicate}
-use Rattle.wire.specs.Columns.{roundAt, withRound, valueAt, withValue, Below}
+use Rattle.terms.specs.Columns.{roundAt, withRound, valueAt, withValue, Below}
 use Rattle.quorum.specs.declared.Settings.{Settings}
 use Rattle.quorum.specs.Settings.{allowed}
 use Rattle.tally.specs.declared.Tally.{Tally}

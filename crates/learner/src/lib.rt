@@ -1,10 +1,10 @@
 // A learner: counts votes at the cells of its lent tables, and answers what is decided for an instance.
 ghost use mathlib.Core.Path.{_≡_};
 ghost use lib.ListN.{getD, set};
-ghost use Rattle.wire.specs.Columns.{valueAt, withValue};
-ghost use Rattle.wire.specs.Rounds.{theInstance};
-ghost use Rattle.wire.specs.Step.{outcome, ruled};
-ghost use Rattle.wire.specs.Values.{theValue};
+ghost use Rattle.terms.specs.Columns.{valueAt, withValue};
+ghost use Rattle.terms.specs.Rounds.{theInstance};
+ghost use Rattle.terms.specs.Values.{theValue};
+ghost use Rattle.player.specs.Step.{outcome, ruled};
 ghost use Rattle.quorum.specs.Settings.{settings};
 ghost use Rattle.tally.specs.Counting.{rulingOf};
 ghost use Rattle.learner.specs.Tables.{tables, cellAt, withCell, cellsFrom, allPossible, sizesAllowed};
@@ -12,13 +12,13 @@ ghost use Rattle.learner.specs.Learner.{learnerStep, told, answer, said,
 use quorum::Settings;
 use tally::Counted;
 use tally::Tally;
-use wire::Instance;
+use terms::Instance;
+use terms::Place;
+use terms::Round;
+use terms::Value;
+use terms::Verdict;
 use wire::Message;
-use wire::Place;
 use wire::Reading;
-use wire::Round;
-use wire::Value;
-use wire::Verdict;
 
 // What a learner says of an instance.
 pub enum Answer {
@@ -164,11 +164,11 @@ fn carry_out(
         Counted::Refused(number) => number,
         Counted::Held { cell } => {
             store_cell(rounds, sets, values, index, cell);
-            wire::verdict_number(Verdict::Hold)
+            terms::verdict_number(Verdict::Hold)
         }
         Counted::Reached { cell } => {
             store_cell(rounds, sets, values, index, cell);
-            wire::verdict_number(Verdict::Decided)
+            terms::verdict_number(Verdict::Decided)
         }
     }
 }
@@ -205,9 +205,9 @@ pub extern "C" fn myrthakel_learner_step(
     else {
         return 6;
     };
-    let place = wire::place_of(instances, instance);
+    let place = terms::place_of(instances, instance);
     let Place::At(index) = place else {
-        return wire::nowhere(place);
+        return terms::nowhere(place);
     };
     let cell = cell_at(rounds, sets, values, index);
     let answer = tally::count_vote(acceptors, cell, sender, instance, round, value);
@@ -241,9 +241,9 @@ pub fn answer_for(
     if !sizes_allowed(settings, rounds.len(), sets.len(), values.len()) {
         return Answer::Refused(7);
     }
-    let place = wire::place_of(settings.instances, instance);
+    let place = terms::place_of(settings.instances, instance);
     let Place::At(index) = place else {
-        return Answer::Refused(wire::nowhere(place));
+        return Answer::Refused(terms::nowhere(place));
     };
     tell(settings.acceptors, cell_at(rounds, sets, values, index))
 }
@@ -270,9 +270,9 @@ pub extern "C" fn myrthakel_learner_answer(
         Answer::Decided { value } => {
             *value_high = value.high;
             *value_low = value.low;
-            wire::verdict_number(Verdict::Done)
+            terms::verdict_number(Verdict::Done)
         }
-        Answer::NotYet => wire::verdict_number(Verdict::NotYet),
+        Answer::NotYet => terms::verdict_number(Verdict::NotYet),
         Answer::Refused(number) => number,
     }
 }

@@ -8,18 +8,18 @@ use mathlib.Core.List.{List, [], _∷_}
 use native.Mathlib.Omega.{arith}
 use lib.ListN.{length}
 use borrow.Author.Tests.{eq-eqb, ne-eqb, le-leb, lt-leb}
+use Rattle.terms.specs.declared.Place.the-variants.{At}
+use Rattle.terms.specs.declared.Value.{Value}
+use Rattle.terms.specs.declared.Verdict.the-variants.{ToAcceptors}
+use Rattle.terms.specs.Ladder.{need_or_then_}
+use Rattle.terms.specs.Rounds.{theInstance, theRound}
+use Rattle.terms.specs.Verdict.{verdictNumber}
 use Rattle.wire.specs.declared.Message.the-variants.{Request, Propose}
-use Rattle.wire.specs.declared.Place.the-variants.{At}
 use Rattle.wire.specs.declared.Reading.the-variants.{Read}
-use Rattle.wire.specs.declared.Value.{Value}
-use Rattle.wire.specs.declared.Verdict.the-variants.{ToAcceptors}
-use Rattle.wire.specs.Ladder.{need_or_then_}
 use Rattle.wire.specs.Message.{whenRequest}
 use Rattle.wire.specs.Packet.{readPacket, packetOf}
-use Rattle.wire.specs.Rounds.{theInstance, theRound}
-use Rattle.wire.specs.Step.{Outcome, outcome, unchanged, Ruling, refused, sends, ruled, act}
-use Rattle.wire.specs.Verdict.{verdictNumber}
-use Rattle.wire.proofs.Steps as steps
+use Rattle.player.specs.Step.{Outcome, outcome, unchanged, Ruling, refused, sends, ruled, act}
+use Rattle.player.proofs.Steps as steps
 use Rattle.quorum.specs.declared.Settings.{Settings}
 use Rattle.quorum.specs.Settings.{allowed}
 use Rattle.primary.specs.declared.Primary.{Primary}

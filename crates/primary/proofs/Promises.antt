@@ -8,23 +8,24 @@ use mathlib.Core.List.{List, [], _∷_}
 use native.Mathlib.Omega.{arith}
 use lib.ListN.{getD}
 use borrow.Author.Tests.{not-true, eqb-false, leb-true, le-leb}
+use Rattle.terms.specs.declared.Value.{Value}
+use Rattle.terms.specs.declared.Verdict.the-variants.{ToAcceptors}
+use Rattle.terms.specs.Rounds.{theRound}
+use Rattle.terms.specs.Verdict.{verdictNumber, isVerdict, saysSend}
+use Rattle.terms.proofs.Ladder.{need-elim}
+use Rattle.terms.proofs.Rounds.{zero-owned}
+use Rattle.terms.proofs.Places.{PlacedBy}
 use Rattle.wire.specs.declared.Message.{Message}
 use Rattle.wire.specs.declared.Message.the-variants.{Request, Propose}
 use Rattle.wire.specs.declared.Reading.the-variants.{Read}
-use Rattle.wire.specs.declared.Value.{Value}
-use Rattle.wire.specs.declared.Verdict.the-variants.{ToAcceptors}
 use Rattle.wire.specs.Packet.{readPacket, Kept}
-use Rattle.wire.specs.Promises.{OneOf, first, packetRefusals, ActsOrRefuses, refuses, acts, NumbersAre, RefusalKeepsAll, PossibleStays, SendsKept, FittingStays}
-use Rattle.wire.specs.Rounds.{theRound}
-use Rattle.wire.specs.Step.{Outcome, unchanged, Ruling, refused, sends}
-use Rattle.wire.specs.Verdict.{verdictNumber, isVerdict, saysSend}
 use Rattle.wire.proofs.Eliminators.{request-elim}
-use Rattle.wire.proofs.Ladder.{need-elim}
-use Rattle.wire.proofs.Laws.{one-of, Writable}
+use Rattle.wire.proofs.Laws.{Writable}
 use Rattle.wire.proofs.Parts.{propose-writable, request-value-fits}
-use Rattle.wire.proofs.Rounds.{zero-owned}
-use Rattle.wire.proofs.Promises.{RuledBy, NextCell, SendsOnly, numbers-are, refusal-keeps-all, sends-kept, tables-hold, fitting-stays}
-use Rattle.wire.proofs.Steps.{PlacedBy}
+use Rattle.player.specs.Promises.{OneOf, first, packetRefusals, ActsOrRefuses, refuses, acts, NumbersAre, RefusalKeepsAll, PossibleStays, SendsKept, FittingStays}
+use Rattle.player.specs.Step.{Outcome, unchanged, Ruling, refused, sends}
+use Rattle.player.proofs.Numbers.{one-of}
+use Rattle.player.proofs.Promises.{RuledBy, NextCell, SendsOnly, numbers-are, refusal-keeps-all, sends-kept, tables-hold, fitting-stays}
 use Rattle.quorum.specs.declared.Settings.{Settings}
 use Rattle.quorum.specs.Settings.{allowed}
 use Rattle.quorum.proofs.Laws.{allowed-brings}

@@ -7,21 +7,21 @@ use mathlib.Core.List.{List, [], _∷_}
 use denote.Enum.Declared.{tagOf}
 use lib.ListN.{length, getD, set}
 use types.Run.{OneOf}
+use Rattle.terms.specs.declared.Place.the-variants.{Nowhere}
+use Rattle.terms.specs.declared.Value.{Value}
+use Rattle.terms.specs.declared.Verdict.the-variants.{ToAcceptors}
+use Rattle.terms.specs.Rounds.{theRound}
+use Rattle.terms.specs.Verdict.{verdictNumber}
 use Rattle.wire.specs.declared.Message.{Message}
 use Rattle.wire.specs.declared.Message.the-variants.{Request, Propose}
-use Rattle.wire.specs.declared.Place.the-variants.{Nowhere}
 use Rattle.wire.specs.declared.Reading.{Reading}
 use Rattle.wire.specs.declared.Reading.the-variants.{Read, Refused}
-use Rattle.wire.specs.declared.Value.{Value}
-use Rattle.wire.specs.declared.Verdict.the-variants.{ToAcceptors}
 use Rattle.wire.specs.Packet.{readPacket, refusalOf, withMessage}
-use Rattle.wire.specs.Rounds.{theRound}
-use Rattle.wire.specs.Step.{Outcome, outcome, unchanged, Ruling, refused, ruled, act}
-use Rattle.wire.specs.Verdict.{verdictNumber}
 use Rattle.wire.proofs.Eliminators.{no-request}
 use Rattle.wire.proofs.Laws.{read-length, put-over}
 use Rattle.wire.proofs.Message.{the-type}
-use Rattle.wire.proofs.Steps as steps
+use Rattle.player.specs.Step.{Outcome, outcome, unchanged, Ruling, refused, ruled, act}
+use Rattle.player.proofs.Steps as steps
 use Rattle.quorum.specs.declared.Settings.{Settings}
 use Rattle.quorum.specs.Settings.{allowed}
 use Rattle.primary.specs.declared.Primary.{Primary}

@@ -5,14 +5,14 @@ use mathlib.Core.Bool.{Bool, not}
 use mathlib.Core.List.{List, [], _∷_}
 use lib.Dec.{eqb, leb}
 use lib.ListN.{length, getD}
+use Rattle.terms.specs.declared.Place.the-variants.{At, Nowhere}
+use Rattle.terms.specs.declared.Verdict.the-variants.{ToAcceptors}
+use Rattle.terms.specs.Ladder.{need_or_then_}
+use Rattle.terms.specs.Rounds.{theInstance, theRound}
 use Rattle.wire.specs.declared.Message.{Message}
 use Rattle.wire.specs.declared.Message.the-variants.{Propose}
-use Rattle.wire.specs.declared.Place.the-variants.{At, Nowhere}
-use Rattle.wire.specs.declared.Verdict.the-variants.{ToAcceptors}
-use Rattle.wire.specs.Ladder.{need_or_then_}
-use Rattle.wire.specs.Rounds.{theInstance, theRound}
 use Rattle.wire.specs.Message.{whenRequest}
-use Rattle.wire.specs.Step.{Outcome, outcome, unchanged, Ruling, refused, sends, Player, step}
+use Rattle.player.specs.Step.{Outcome, outcome, unchanged, Ruling, refused, sends, Player, step}
 use Rattle.quorum.specs.declared.Settings.{Settings}
 use Rattle.quorum.specs.Settings.{allowed}
 use Rattle.primary.specs.declared.Primary.{Primary}

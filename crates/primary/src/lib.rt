@@ -1,14 +1,14 @@
 // The primary leader: gives each request the next instance.
 ghost use mathlib.Core.Path.{_≡_};
-ghost use Rattle.wire.specs.Step.{outcome};
+ghost use Rattle.player.specs.Step.{outcome};
 ghost use Rattle.quorum.specs.Settings.{settings};
 ghost use Rattle.primary.specs.Primary.{freshPrimary, primaryStep, lentStep};
 use quorum::Settings;
-use wire::Instance;
+use terms::Instance;
+use terms::Round;
+use terms::Verdict;
 use wire::Message;
 use wire::Reading;
-use wire::Round;
-use wire::Verdict;
 
 // The primary's record, kept by its caller.
 pub struct Primary {
@@ -74,7 +74,7 @@ pub fn step(acceptors: u32, instances: u32, primary: Primary, packet: &mut [u8])
         primary: Primary {
             next: Instance(risen),
         },
-        answer: wire::verdict_number(Verdict::ToAcceptors),
+        answer: terms::verdict_number(Verdict::ToAcceptors),
     }
 }
 

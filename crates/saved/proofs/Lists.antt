@@ -12,8 +12,8 @@ use Rattle.numbers.specs.BigEndian.{bytesAt}
 use Rattle.numbers.specs.Fronts.{withFront}
 use Rattle.numbers.proofs.Bytes.{written-out}
 use Rattle.numbers.proofs.Fronts.{front-next, front-whole}
-use Rattle.wire.specs.Rounds.{theRound}
-use Rattle.wire.specs.Values.{theValue}
+use Rattle.terms.specs.Rounds.{theRound}
+use Rattle.terms.specs.Values.{theValue}
 use Rattle.tally.specs.declared.Tally.{Tally}
 use Rattle.tally.specs.Tally.{tally}
 use Rattle.learner.specs.Tables.{Tables, tables, cellAt, withCell, cellsFrom, Sized}

@@ -11,14 +11,14 @@ use lib.ListN.{length, length-append}
 use borrow.Author.Tests.{eqb-true, leb-true, eq-eqb, le-leb}
 use Rattle.numbers.specs.BigEndian.{numberAt, Bytes}
 use Rattle.numbers.proofs.Bytes.{numberAt-lt}
-use Rattle.wire.specs.declared.Verdict.the-variants.{Done}
-use Rattle.wire.specs.Columns.{Below}
-use Rattle.wire.specs.Ladder.{need_or_then_}
-use Rattle.wire.specs.Promises.{OneOf, first, NumbersAre, RefusalKeepsAll, FittingStays, ActsOrRefuses, refuses, acts}
-use Rattle.wire.specs.Step.{Outcome, outcome, unchanged}
-use Rattle.wire.specs.Verdict.{verdictNumber, isVerdict}
-use Rattle.wire.proofs.Ladder.{need-elim}
-use Rattle.wire.proofs.Laws.{one-of}
+use Rattle.terms.specs.declared.Verdict.the-variants.{Done}
+use Rattle.terms.specs.Columns.{Below}
+use Rattle.terms.specs.Ladder.{need_or_then_}
+use Rattle.terms.specs.Verdict.{verdictNumber, isVerdict}
+use Rattle.terms.proofs.Ladder.{need-elim}
+use Rattle.player.specs.Promises.{OneOf, first, NumbersAre, RefusalKeepsAll, FittingStays, ActsOrRefuses, refuses, acts}
+use Rattle.player.specs.Step.{Outcome, outcome, unchanged}
+use Rattle.player.proofs.Numbers.{one-of}
 use Rattle.quorum.specs.declared.Settings.{Settings}
 use Rattle.learner.specs.Tables.{Tables, cells, cellsFrom, allPossible, learnerAllowed, Sized, Fitting}
 use Rattle.saved.specs.Saved.{version, headerLength, savedLength, header, marked, versionIn, sameSettings, tallyIn, talliesBytes, savedTable, savedFrom, savedCells, roundsOf, setsOf, valuesOf, tablesOf, save, readSaved}

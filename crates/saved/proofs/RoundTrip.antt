@@ -13,12 +13,12 @@ use lib.Seq.{take-at, drop-append-seam, getD-append-add}
 use borrow.Author.Tests.{eqb-true, eq-eqb}
 use Rattle.numbers.specs.BigEndian.{bigEndian, toBytes, bytesAt, numberAt, Bytes}
 use Rattle.numbers.proofs.Bytes.{number-within, length-toBytes, bytesAt-part, bytesAt-add, bigEndian-toBytes, toBytes-numberAt, written-out}
-use Rattle.wire.specs.declared.Verdict.the-variants.{Done}
-use Rattle.wire.specs.Rounds.{theRound}
-use Rattle.wire.specs.Step.{outcome}
-use Rattle.wire.specs.Values.{theValue}
-use Rattle.wire.specs.Verdict.{verdictNumber}
-use Rattle.wire.proofs.Ladder.{both-true, and-true}
+use Rattle.terms.specs.declared.Verdict.the-variants.{Done}
+use Rattle.terms.specs.Rounds.{theRound}
+use Rattle.terms.specs.Values.{theValue}
+use Rattle.terms.specs.Verdict.{verdictNumber}
+use Rattle.terms.proofs.Ladder.{both-true, and-true}
+use Rattle.player.specs.Step.{outcome}
 use Rattle.quorum.specs.declared.Settings.{Settings}
 use Rattle.quorum.specs.Quorum.{Member}
 use Rattle.tally.specs.declared.Tally.{Tally}

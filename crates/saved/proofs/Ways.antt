@@ -9,10 +9,10 @@ use lib.ListN.{length, take, drop}
 use lib.Seq.{take-at}
 use borrow.Author.Tests.{not-true, not-false, eq-eqb, ne-eqb, le-leb, lt-leb}
 use Rattle.numbers.specs.Fronts.{withFront}
-use Rattle.wire.specs.declared.Verdict.the-variants.{Done}
-use Rattle.wire.specs.Ladder.{need_or_then_}
-use Rattle.wire.specs.Step.{outcome, unchanged}
-use Rattle.wire.specs.Verdict.{verdictNumber}
+use Rattle.terms.specs.declared.Verdict.the-variants.{Done}
+use Rattle.terms.specs.Ladder.{need_or_then_}
+use Rattle.terms.specs.Verdict.{verdictNumber}
+use Rattle.player.specs.Step.{outcome, unchanged}
 use Rattle.quorum.specs.declared.Settings.{Settings}
 use Rattle.learner.specs.Tables.{Tables, cells, allPossible, learnerAllowed}
 use Rattle.learner.proofs.Ways.{Allowed, allowed-tables}

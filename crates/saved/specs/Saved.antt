@@ -7,12 +7,12 @@ use mathlib.Core.List.{List, [], _∷_, _++_}
 use lib.Dec.{eqb, leb}
 use lib.ListN.{length, getD}
 use Rattle.numbers.specs.BigEndian.{numberAt, toBytes}
-use Rattle.wire.specs.declared.Verdict.the-variants.{Done}
-use Rattle.wire.specs.Ladder.{need_or_then_}
-use Rattle.wire.specs.Rounds.{theRound}
-use Rattle.wire.specs.Step.{Outcome, outcome, unchanged}
-use Rattle.wire.specs.Values.{theValue}
-use Rattle.wire.specs.Verdict.{verdictNumber}
+use Rattle.terms.specs.declared.Verdict.the-variants.{Done}
+use Rattle.terms.specs.Ladder.{need_or_then_}
+use Rattle.terms.specs.Rounds.{theRound}
+use Rattle.terms.specs.Values.{theValue}
+use Rattle.terms.specs.Verdict.{verdictNumber}
+use Rattle.player.specs.Step.{Outcome, outcome, unchanged}
 use Rattle.quorum.specs.declared.Settings.{Settings}
 use Rattle.tally.specs.declared.Tally.{Tally}
 use Rattle.tally.specs.Tally.{tally}

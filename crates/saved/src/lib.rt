@@ -5,15 +5,15 @@ ghost use Prim.Native.Nat.{_+_, _^_, _≤_, _<_};
 ghost use lib.ListN.{length, take};
 ghost use lib.Seq.{sets};
 ghost use Rattle.numbers.specs.Fronts.{withFront};
-ghost use Rattle.wire.specs.Step.{outcome};
+ghost use Rattle.player.specs.Step.{outcome};
 ghost use Rattle.quorum.specs.Settings.{settings};
 ghost use Rattle.learner.specs.Tables.{tables, cellsFrom, allPossible, Sized};
 ghost use Rattle.saved.specs.Saved.{headerLength, tallyLength, savedLength, header, marked, sameSettings, tallyBytes, tallyIn, talliesBytes, savedFrom, tablesOf, save, readSaved};
 use quorum::Settings;
 use tally::Tally;
-use wire::Round;
-use wire::Value;
-use wire::Verdict;
+use terms::Round;
+use terms::Value;
+use terms::Verdict;
 
 const VERSION: u16 = 1;
 
@@ -150,7 +150,7 @@ pub extern "C" fn myrthakel_learner_save(
     }
     put_header(settings, buffer);
     put_cells(instances, rounds, sets, values, buffer);
-    wire::verdict_number(Verdict::Done)
+    terms::verdict_number(Verdict::Done)
 }
 
 // Every saved cell is judged before the first is stored.
@@ -191,5 +191,5 @@ pub extern "C" fn myrthakel_learner_read_saved(
         return 17;
     }
     store_saved(instances, saved, rounds, sets, values);
-    wire::verdict_number(Verdict::Done)
+    terms::verdict_number(Verdict::Done)
 }

@@ -8,22 +8,22 @@ use mathlib.Core.Logic.{⊎-elim}
 use native.Mathlib.Omega.{arith}
 use lib.Dec.{eqb, ltb, lit<}
 use borrow.Author.Tests.{not-true, eqb-true, eq-eqb, ltb-true, lt-ltb}
-use Rattle.wire.specs.declared.Instance.{Instance}
+use Rattle.terms.specs.declared.Instance.{Instance}
+use Rattle.terms.specs.declared.Round.{Round}
+use Rattle.terms.specs.declared.Value.{Value}
+use Rattle.terms.specs.declared.Verdict.the-variants.{ToAcceptors}
+use Rattle.terms.specs.Rounds.{theRound, none, isNone, ownerOf, sameRound}
+use Rattle.terms.specs.Values.{null, isNull}
+use Rattle.terms.specs.Votes.{isVoteBy}
+use Rattle.terms.proofs.Ladder.{by-test, if-elim, need-elim, both-true, and-true, or-left, or-right, or-cases}
+use Rattle.terms.proofs.Votes.{never-voted}
 use Rattle.wire.specs.declared.Message.{Message}
 use Rattle.wire.specs.declared.Message.the-variants.{Prepare, Promise}
-use Rattle.wire.specs.declared.Round.{Round}
-use Rattle.wire.specs.declared.Value.{Value}
-use Rattle.wire.specs.declared.Verdict.the-variants.{ToAcceptors}
-use Rattle.wire.specs.Rounds.{theRound, none, isNone, ownerOf, sameRound}
-use Rattle.wire.specs.Values.{null, isNull}
-use Rattle.wire.specs.Table.{isVoteBy}
-use Rattle.wire.specs.Step.{Ruling, refused, sends}
 use Rattle.wire.proofs.Eliminators.{promise-elim}
-use Rattle.wire.proofs.Ladder.{by-test, if-elim, need-elim, both-true, and-true, or-left, or-right, or-cases}
 use Rattle.wire.proofs.Laws.{Writable}
-use Rattle.wire.proofs.Promises.{NextCell}
 use Rattle.wire.proofs.Parts.{ValueFits, promise-vote-round-fits, promise-value-fits}
-use Rattle.wire.proofs.Votes.{never-voted}
+use Rattle.player.specs.Step.{Ruling, refused, sends}
+use Rattle.player.proofs.Promises.{NextCell}
 use Rattle.quorum.specs.Quorum.{majority, hasMember, withMember, within, size, reachesMajority}
 use Rattle.quorum.proofs.Laws.{reaches-iff, with-member-size, with-member-within, empty-size, empty-within, with-member-fits}
 use Rattle.takeover.specs.declared.Cell.{Cell}

@@ -3,9 +3,9 @@
 use Prim.Native.Nat.{ℕ, _%_, _≤_, _<_, max}
 use mathlib.Core.Path.{_≡_}
 use native.Mathlib.Omega.{arith}
-use Rattle.wire.specs.declared.Round.{Round}
-use Rattle.wire.specs.Rounds.{theRound, ownerOf}
-use Rattle.wire.proofs.Rounds.{owner-is, owner-remainder}
+use Rattle.terms.specs.declared.Round.{Round}
+use Rattle.terms.specs.Rounds.{theRound, ownerOf}
+use Rattle.terms.proofs.Rounds.{owner-is, owner-remainder}
 use Rattle.takeover.specs.Takeover.{nextRound, SmallestOwned}
 
 module _ (own above : ℕ) where

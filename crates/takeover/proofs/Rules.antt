@@ -5,14 +5,14 @@ use mathlib.Core.Path.{_≡_}
 use mathlib.Core.Bool.{Bool, true, false, not, _&&_}
 use lib.Dec.{eqb}
 use borrow.Author.Tests.{not-true, not-false, lt-ltb, le-ltb}
-use Rattle.wire.specs.declared.Instance.{Instance}
+use Rattle.terms.specs.declared.Instance.{Instance}
+use Rattle.terms.specs.declared.Round.{Round}
+use Rattle.terms.specs.declared.Value.{Value}
+use Rattle.terms.specs.declared.Verdict.the-variants.{ToAcceptors}
+use Rattle.terms.specs.Ladder.{need_or_then_}
+use Rattle.terms.specs.Rounds.{theRound, sameRound}
 use Rattle.wire.specs.declared.Message.the-variants.{Prepare}
-use Rattle.wire.specs.declared.Round.{Round}
-use Rattle.wire.specs.declared.Value.{Value}
-use Rattle.wire.specs.declared.Verdict.the-variants.{ToAcceptors}
-use Rattle.wire.specs.Ladder.{need_or_then_}
-use Rattle.wire.specs.Rounds.{theRound, sameRound}
-use Rattle.wire.specs.Step.{Ruling, refused, sends}
+use Rattle.player.specs.Step.{Ruling, refused, sends}
 use Rattle.quorum.specs.Quorum.{hasMember}
 use Rattle.takeover.specs.declared.Cell.{Cell}
 use Rattle.takeover.specs.Takeover.{asking, possible, nextRound, started, start, counting, whenMajority, promise}

@@ -6,18 +6,18 @@ use mathlib.Core.Path.{_≡_}
 use mathlib.Core.Bool.{Bool, not, _&&_, _||_}
 use lib.Dec.{eqb, ltb}
 use lib.ListN.{set}
-use Rattle.wire.specs.declared.Instance.{Instance}
+use Rattle.terms.specs.declared.Instance.{Instance}
+use Rattle.terms.specs.declared.Round.{Round}
+use Rattle.terms.specs.declared.Value.{Value}
+use Rattle.terms.specs.declared.Verdict.the-variants.{ToAcceptors, Hold}
+use Rattle.terms.specs.Ladder.{if_then_else_, need_or_then_}
+use Rattle.terms.specs.Rounds.{theRound, none, isNone, ownerOf, atMost, sameRound}
+use Rattle.terms.specs.Values.{null, isNull}
+use Rattle.terms.specs.Votes.{isVoteBy}
 use Rattle.wire.specs.declared.Message.{Message}
 use Rattle.wire.specs.declared.Message.the-variants.{Prepare, Propose}
-use Rattle.wire.specs.declared.Round.{Round}
-use Rattle.wire.specs.declared.Value.{Value}
-use Rattle.wire.specs.declared.Verdict.the-variants.{ToAcceptors, Hold}
-use Rattle.wire.specs.Ladder.{if_then_else_, need_or_then_}
-use Rattle.wire.specs.Rounds.{theRound, none, isNone, ownerOf, atMost, sameRound}
-use Rattle.wire.specs.Values.{null, isNull}
-use Rattle.wire.specs.Table.{isVoteBy}
 use Rattle.wire.specs.Message.{whenPromise}
-use Rattle.wire.specs.Step.{Ruling, refused, sends, counts}
+use Rattle.player.specs.Step.{Ruling, refused, sends, counts}
 use Rattle.quorum.specs.Quorum.{majority, hasMember, withMember, within, size, reachesMajority}
 use Rattle.takeover.specs.declared.Cell.{Cell}
 use Rattle.takeover.specs.declared.Ruled.{Ruled}

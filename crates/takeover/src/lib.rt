@@ -2,10 +2,10 @@
 ghost use mathlib.Core.Path.{_≡_};
 ghost use Prim.Native.Nat.{max};
 ghost use Rattle.takeover.specs.Takeover.{freshCell, isFresh, phaseFits, isStarted, possible, nextRound, start, counting, chosen, whenMajority, promise, rulingOf};
-use wire::Instance;
+use terms::Instance;
+use terms::Round;
+use terms::Value;
 use wire::Message;
-use wire::Round;
-use wire::Value;
 
 // What a backup keeps of one instance. The phase is its number in the lent table; any other number is an impossible cell.
 pub struct Cell {
@@ -37,7 +37,7 @@ pub fn fresh_cell() -> Cell
         round: Round(0),
         phase: IDLE,
         set: 0,
-        best_vote_round: Round(wire::NONE),
+        best_vote_round: Round(terms::NONE),
         best_value: Value { high: 0, low: 0 },
         own_value: Value { high: 0, low: 0 },
     }
@@ -51,9 +51,9 @@ fn is_fresh(cell: Cell) -> bool
     (cell.phase == IDLE)
         & (cell.round.0 == 0)
         & (cell.set == 0)
-        & wire::is_none(cell.best_vote_round)
-        & wire::is_null(cell.best_value)
-        & wire::is_null(cell.own_value)
+        & terms::is_none(cell.best_vote_round)
+        & terms::is_null(cell.best_value)
+        & terms::is_null(cell.own_value)
 }
 
 fn phase_fits(acceptors: u32, phase: u8, set: u8) -> bool
@@ -67,11 +67,11 @@ fn phase_fits(acceptors: u32, phase: u8, set: u8) -> bool
 fn is_started(acceptors: u32, own: u16, cell: Cell) -> bool
     ensures { λ r. ⌜ r ≡ isStarted acceptors own cell ⌝ }
 {
-    (wire::owner(cell.round) == own)
+    (terms::owner(cell.round) == own)
         & quorum::is_within(acceptors, cell.set)
-        & wire::is_vote_by(cell.round, cell.best_vote_round, cell.best_value)
+        & terms::is_vote_by(cell.round, cell.best_vote_round, cell.best_value)
         & phase_fits(acceptors, cell.phase, cell.set)
-        & (!(cell.set == 0) | wire::is_none(cell.best_vote_round))
+        & (!(cell.set == 0) | terms::is_none(cell.best_vote_round))
 }
 
 pub fn is_possible(acceptors: u32, own: u16, cell: Cell) -> bool
@@ -105,7 +105,7 @@ pub fn start_cell(
         return Ruled::Refused(17);
     }
     let next = next_round(own, cell.round.0, floor);
-    if (wire::NONE as u64) <= next {
+    if (terms::NONE as u64) <= next {
         return Ruled::Refused(16);
     }
     let round = Round(next as u32);
@@ -114,7 +114,7 @@ pub fn start_cell(
             round,
             phase: ASKING,
             set: 0,
-            best_vote_round: Round(wire::NONE),
+            best_vote_round: Round(terms::NONE),
             best_value: Value { high: 0, low: 0 },
             own_value: value,
         },
@@ -133,7 +133,7 @@ fn count_promise(cell: Cell, sender: u16, vote_round: Round, value: Value) -> Ce
     let best_vote_round = cell.best_vote_round;
     let best_value = cell.best_value;
     let own_value = cell.own_value;
-    if wire::at_most(vote_round, best_vote_round) {
+    if terms::at_most(vote_round, best_vote_round) {
         return Cell {
             round,
             phase: cell.phase,
@@ -156,7 +156,7 @@ fn count_promise(cell: Cell, sender: u16, vote_round: Round, value: Value) -> Ce
 fn choose(cell: Cell) -> Value
     ensures { λ r. ⌜ r ≡ chosen cell ⌝ }
 {
-    if wire::is_none(cell.best_vote_round) {
+    if terms::is_none(cell.best_vote_round) {
         return cell.own_value;
     }
     cell.best_value
@@ -208,7 +208,7 @@ pub fn take_promise(
     if !is_possible(acceptors, own, cell) {
         return Ruled::Refused(17);
     }
-    if !((cell.phase == ASKING) & wire::same_round(round, cell.round)) {
+    if !((cell.phase == ASKING) & terms::same_round(round, cell.round)) {
         return Ruled::Refused(11);
     }
     if quorum::has_member(cell.set, sender) {

@@ -8,15 +8,15 @@ use mathlib.Core.Logic.{⊎-elim}
 use native.Mathlib.Omega.{arith}
 use lib.Dec.{eqb, leb, ltb, lit<}
 use borrow.Author.Tests.{not-true, ltb-true, leb-true, leb-false, le-leb, eqb-true, ne-eqb}
-use Rattle.wire.specs.declared.Instance.{Instance}
-use Rattle.wire.specs.declared.Round.{Round}
-use Rattle.wire.specs.declared.Value.{Value}
-use Rattle.wire.specs.Rounds.{sameRound, atMost, isNone, ownedOr0}
-use Rattle.wire.specs.Step.{Ruling, refused}
-use Rattle.wire.specs.Values.{sameValue, isNull}
-use Rattle.wire.proofs.Ladder.{by-test, if-elim, need-elim, both-true, and-true, or-right, or-cases}
+use Rattle.terms.specs.declared.Instance.{Instance}
+use Rattle.terms.specs.declared.Round.{Round}
+use Rattle.terms.specs.declared.Value.{Value}
+use Rattle.terms.specs.Rounds.{sameRound, atMost, isNone, ownedOr0}
+use Rattle.terms.specs.Values.{sameValue, isNull}
+use Rattle.terms.proofs.Ladder.{by-test, if-elim, need-elim, both-true, and-true, or-right, or-cases}
 use Rattle.wire.proofs.Parts.{ValueFits}
-use Rattle.wire.proofs.Promises.{NextCell}
+use Rattle.player.specs.Step.{Ruling, refused}
+use Rattle.player.proofs.Promises.{NextCell}
 use Rattle.quorum.specs.Quorum.{majority, hasMember, within, size, reaches, reachesMajority}
 use Rattle.quorum.proofs.Laws.{majority-some, reaches-iff, empty-size, empty-within, empty-bit, absent-iff, with-member-size, with-member-within, with-member-fits}
 use Rattle.tally.specs.declared.Tally.{Tally}

@@ -4,14 +4,14 @@ use Prim.Native.Nat.{ℕ, _≤_, _<_}
 use mathlib.Core.Path.{_≡_, sym, _∙_}
 use mathlib.Core.Bool.{Bool, true, false, not}
 use borrow.Author.Tests.{not-true, not-false, lt-ltb, le-ltb}
-use Rattle.wire.specs.declared.Instance.{Instance}
-use Rattle.wire.specs.declared.Round.{Round}
-use Rattle.wire.specs.declared.Value.{Value}
-use Rattle.wire.specs.Ladder.{if_then_else_, need_or_then_}
-use Rattle.wire.proofs.Ladder.{if-true, if-false}
-use Rattle.wire.specs.Rounds.{sameRound, atMost}
-use Rattle.wire.specs.Values.{sameValue}
-use Rattle.wire.specs.Step.{Ruling, refused}
+use Rattle.terms.specs.declared.Instance.{Instance}
+use Rattle.terms.specs.declared.Round.{Round}
+use Rattle.terms.specs.declared.Value.{Value}
+use Rattle.terms.specs.Ladder.{if_then_else_, need_or_then_}
+use Rattle.terms.proofs.Ladder.{if-true, if-false}
+use Rattle.terms.specs.Rounds.{sameRound, atMost}
+use Rattle.terms.specs.Values.{sameValue}
+use Rattle.player.specs.Step.{Ruling, refused}
 use Rattle.quorum.specs.Quorum.{hasMember}
 use Rattle.tally.specs.declared.Tally.{Tally}
 use Rattle.tally.specs.Tally.{isDecided, possible, withVoter}

@@ -3,10 +3,10 @@
 use Prim.Native.Nat.{ℕ}
 use mathlib.Core.Bool.{Bool, not, _&&_, _||_}
 use lib.Dec.{eqb, leb}
-use Rattle.wire.specs.declared.Round.{Round}
-use Rattle.wire.specs.declared.Value.{Value}
-use Rattle.wire.specs.Rounds.{none, isNone, ownedOr0}
-use Rattle.wire.specs.Values.{null, isNull}
+use Rattle.terms.specs.declared.Round.{Round}
+use Rattle.terms.specs.declared.Value.{Value}
+use Rattle.terms.specs.Rounds.{none, isNone, ownedOr0}
+use Rattle.terms.specs.Values.{null, isNull}
 use Rattle.quorum.specs.Quorum.{majority, withMember, within, size, reachesMajority}
 use Rattle.tally.specs.declared.Tally.{Tally}
 

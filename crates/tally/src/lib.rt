@@ -2,9 +2,9 @@
 ghost use mathlib.Core.Path.{_≡_};
 ghost use Rattle.tally.specs.Tally.{freshTally, isDecided, isFresh, isHeard, possible, withVoter};
 ghost use Rattle.tally.specs.Counting.{whenDecided, vote, rulingOf};
-use wire::Instance;
-use wire::Round;
-use wire::Value;
+use terms::Instance;
+use terms::Round;
+use terms::Value;
 
 // A learner's cell.
 pub struct Tally {
@@ -24,7 +24,7 @@ pub fn fresh_tally() -> Tally
     ensures { λ r. ⌜ r ≡ freshTally ⌝ }
 {
     Tally {
-        round: Round(wire::NONE),
+        round: Round(terms::NONE),
         set: 0,
         value: Value { high: 0, low: 0 },
     }
@@ -40,13 +40,13 @@ pub fn is_decided(acceptors: u32, cell: Tally) -> bool
 fn is_fresh(cell: Tally) -> bool
     ensures { λ r. ⌜ r ≡ isFresh cell ⌝ }
 {
-    wire::is_none(cell.round) & (cell.set == 0) & wire::is_null(cell.value)
+    terms::is_none(cell.round) & (cell.set == 0) & terms::is_null(cell.value)
 }
 
 fn is_heard(acceptors: u32, cell: Tally) -> bool
     ensures { λ r. ⌜ r ≡ isHeard acceptors cell ⌝ }
 {
-    wire::owned_or_0(cell.round)
+    terms::owned_or_0(cell.round)
         & quorum::is_within(acceptors, cell.set)
         & !(cell.set == 0)
         & (quorum::size(cell.set) <= quorum::majority(acceptors))
@@ -93,13 +93,13 @@ pub fn count_vote(
     if is_decided(acceptors, cell) {
         return Counted::Refused(14);
     }
-    if !wire::at_most(cell.round, round) {
+    if !terms::at_most(cell.round, round) {
         return Counted::Refused(10);
     }
-    if !wire::same_round(round, cell.round) {
+    if !terms::same_round(round, cell.round) {
         return hold_or_decide(acceptors, with_voter(0, sender, round, value));
     }
-    if !wire::same_value(value, cell.value) {
+    if !terms::same_value(value, cell.value) {
         return Counted::Refused(13);
     }
     if quorum::has_member(cell.set, sender) {

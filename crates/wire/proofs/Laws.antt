@@ -2,33 +2,31 @@
 -- each kind of message keeps of its row.
 -- Assumes nothing.
 use Prim.Native.Nat.{ℕ, zero, suc, _≤_, _<_}
-use mathlib.Core.Path.{_≡_, refl, sym, ap, subst}
+use mathlib.Core.Path.{_≡_, refl, sym, ap}
 use mathlib.Core.Bool.{Bool, true, false, not, _&&_, _||_, false≢true}
-use mathlib.Core.Logic.{⊎-elim}
 use mathlib.Core.List.{List, [], _∷_, _++_}
 use native.Mathlib.Omega.{arith}
 use lib.Dec.{eqb, leb}
 use lib.ListN.{length}
-use borrow.Author.Tests.{eqb-true, eq-eqb, le-leb, leb-true}
+use borrow.Author.Tests.{eq-eqb, le-leb, leb-true}
 use Rattle.numbers.specs.BigEndian.{toBytes, Bytes}
 use Rattle.numbers.proofs.Bytes.{Bytes-append, Bytes-toBytes, numberAt-lt}
-use Rattle.wire.specs.declared.Instance.{Instance}
-use Rattle.wire.specs.declared.Round.{Round}
-use Rattle.wire.specs.declared.Value.{Value}
+use Rattle.terms.specs.declared.Instance.{Instance}
+use Rattle.terms.specs.declared.Round.{Round}
+use Rattle.terms.specs.declared.Value.{Value}
+use Rattle.terms.specs.Ladder.{if_then_else_, need_or_then_}
+use Rattle.terms.specs.Rounds.{isNone, nobody, ownerOf, ownedOr0, ownedNot0, atMost}
+use Rattle.terms.specs.Values.{isNull}
+use Rattle.terms.specs.Votes.{isVoteBy}
+use Rattle.terms.proofs.Ladder.{and-true, or-left, or-right, need-elim, if-true}
+use Rattle.terms.proofs.Rounds.{owned-some}
 use Rattle.wire.specs.declared.Message.{Message}
 use Rattle.wire.specs.declared.Message.the-variants.{Request, Prepare, Promise, Propose, Vote}
 use Rattle.wire.specs.declared.Reading.{Reading}
 use Rattle.wire.specs.declared.Reading.the-variants.{Read, Refused}
-use Rattle.wire.specs.Ladder.{if_then_else_, need_or_then_}
-use Rattle.wire.specs.Rounds.{isNone, nobody, ownerOf, ownedOr0, ownedNot0, atMost}
-use Rattle.wire.specs.Values.{isNull}
-use Rattle.wire.specs.Table.{requestRow, prepareRow, promiseRow, proposeRow, voteRow, tableRow, keepsTable, isVoteBy}
+use Rattle.wire.specs.Table.{requestRow, prepareRow, promiseRow, proposeRow, voteRow, tableRow, keepsTable}
 use Rattle.wire.specs.Message.{fieldsOf}
 use Rattle.wire.specs.Packet.{packetLength, version, fieldsIn, readPacket, packetWith, packetOf, withMessage}
-use Rattle.wire.specs.Promises.{OneOf, first, later, packetRefusals}
-use Rattle.wire.specs.Verdict.{saysSend}
-use Rattle.wire.proofs.Ladder.{and-true, or-left, or-right, need-elim, if-true, or-cases}
-use Rattle.wire.proofs.Rounds.{owned-some}
 use Rattle.wire.proofs.RoundTrip.{InRange, joined, columns, read-kept, read-fields, packet-reads}
 
 -- ---- reading and writing
@@ -66,18 +64,7 @@ written-reads m w = packet-reads m (w .range) (w .kept)
 
 -- ---- refusals
 
--- that a number is one of a list is computed
-abbrev pub isOneOf : ℕ → List ℕ → Bool
-isOneOf number [] = false
-isOneOf number (other ∷ others) = eqb number other || isOneOf number others
-
-pub one-of : (number : ℕ) (numbers : List ℕ) → isOneOf number numbers ≡ true → OneOf number numbers
-one-of number [] e = absurd (false≢true e)
-one-of number (other ∷ others) e =
-    ⊎-elim (λ same. subst (λ n. OneOf number (n ∷ others)) (eqb-true number other same) first) (λ rest. later (one-of number others rest))
-    (or-cases (eqb number other) (isOneOf number others) e)
-
--- of a reading that is a refusal, the number is such a one
+-- Malformed means refused by 1 to 5: of a reading that is a refusal, the number is such a one.
 abbrev pub RefusedBy : (ℕ → Type 0) → Reading → Type 0
 RefusedBy Such (Read m) = Unit {0}
 RefusedBy Such (Refused number) = Such number
@@ -91,17 +78,6 @@ module _ (Such : ℕ → Type 0) (one : Such 1) (two : Such 2) (three : Such 3) 
       need-elim (RefusedBy Such) _ _ _ three λ _.
       need-elim (RefusedBy Such) _ _ _ four λ _.
       need-elim (RefusedBy Such) _ _ _ five λ _. tt
-
--- Malformed means refused by 1 to 5.
-pub reader-numbers : (others : List ℕ) (p : List ℕ) → RefusedBy (λ number. OneOf number (packetRefusals others)) (readPacket p)
-reader-numbers others =
-    let numbers = packetRefusals others in
-    reader-refuses (λ number. OneOf number numbers) (one-of 1 numbers refl) (one-of 2 numbers refl) (one-of 3 numbers refl) (one-of 4 numbers refl) (one-of 5 numbers refl)
-
--- none of them says to send
-pub reader-quiet : (p : List ℕ) → RefusedBy (λ number. saysSend number ≡ false) (readPacket p)
-unfolding saysSend
-reader-quiet = reader-refuses (λ number. saysSend number ≡ false) refl refl refl refl refl
 
 -- ---- bytes that are sent
 

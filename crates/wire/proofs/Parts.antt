@@ -7,15 +7,15 @@ use mathlib.Core.Bool.{true}
 use native.Mathlib.Omega.{arith}
 use lib.Dec.{lit<}
 use borrow.Author.Tests.{leb-true}
-use Rattle.wire.specs.declared.Instance.{Instance}
-use Rattle.wire.specs.declared.Round.{Round}
-use Rattle.wire.specs.declared.Value.{Value}
+use Rattle.terms.specs.declared.Instance.{Instance}
+use Rattle.terms.specs.declared.Round.{Round}
+use Rattle.terms.specs.declared.Value.{Value}
+use Rattle.terms.specs.Rounds.{ownerOf, ownedOr0, ownedNot0}
+use Rattle.terms.specs.Votes.{isVoteBy}
+use Rattle.terms.proofs.Rounds.{owned-or-0}
 use Rattle.wire.specs.declared.Message.the-variants.{Request, Prepare, Promise, Propose, Vote}
-use Rattle.wire.specs.Rounds.{ownerOf, ownedOr0, ownedNot0}
-use Rattle.wire.specs.Table.{isVoteBy}
 use Rattle.wire.specs.Message.{fieldsOf}
 use Rattle.wire.proofs.Laws.{Writable, prepare-kept, promise-kept, propose-kept, vote-kept}
-use Rattle.wire.proofs.Rounds.{owned-or-0}
 
 -- both halves fit
 pub record ValueFits (v : Value) : Type 0 where

@@ -12,25 +12,25 @@ use lib.ListN.{length, getD}
 use borrow.Author.Tests.{eqb-true, leb-true, ne-eqb, eq-eqb}
 use Rattle.numbers.specs.BigEndian.{toBytes, bytesAt, numberAt, Bytes}
 use Rattle.numbers.proofs.Bytes.{bigEndian-toBytes, toBytes-numberAt, written-out}
-use Rattle.wire.specs.declared.Instance.{Instance}
-use Rattle.wire.specs.declared.Round.{Round}
-use Rattle.wire.specs.declared.Value.{Value}
+use Rattle.terms.specs.declared.Instance.{Instance}
+use Rattle.terms.specs.declared.Round.{Round}
+use Rattle.terms.specs.declared.Value.{Value}
+use Rattle.terms.specs.declared.Verdict.the-variants.{Done}
+use Rattle.terms.specs.Ladder.{if_then_else_, need_or_then_}
+use Rattle.terms.specs.Rounds.{theInstance, theRound, none, isNone, nobody, ownerOf, ownedOr0}
+use Rattle.terms.specs.Values.{null, isNull}
+use Rattle.terms.specs.Verdict.{verdictNumber}
+use Rattle.terms.proofs.Ladder.{both-true}
+use Rattle.terms.proofs.Rounds.{owned-or-0}
 use Rattle.wire.specs.declared.Fields.{Fields}
 use Rattle.wire.specs.declared.Row.{Row}
 use Rattle.wire.specs.declared.Message.{Message}
 use Rattle.wire.specs.declared.Message.the-variants.{Request, Prepare, Promise, Propose, Vote}
 use Rattle.wire.specs.declared.Reading.{Reading}
 use Rattle.wire.specs.declared.Reading.the-variants.{Read, Refused}
-use Rattle.wire.specs.declared.Verdict.the-variants.{Done}
-use Rattle.wire.specs.Ladder.{if_then_else_, need_or_then_}
-use Rattle.wire.specs.Rounds.{theInstance, theRound, none, isNone, nobody, ownerOf, ownedOr0}
-use Rattle.wire.specs.Values.{null, isNull}
 use Rattle.wire.specs.Table.{requestRow, prepareRow, promiseRow, proposeRow, voteRow, tableRow, keepsTable}
 use Rattle.wire.specs.Message.{fields, messageOf, fieldsOf}
 use Rattle.wire.specs.Packet.{packetLength, version, marked, fieldsIn, readPacket, Kept, packetWith, packetOf, written, writePacket}
-use Rattle.wire.specs.Verdict.{verdictNumber}
-use Rattle.wire.proofs.Ladder.{both-true}
-use Rattle.wire.proofs.Rounds.{owned-or-0}
 
 -- ---- packet and fields
 

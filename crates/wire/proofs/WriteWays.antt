@@ -9,14 +9,14 @@ use lib.Seq.{sets}
 use borrow.Author.Tests.{eq-eqb, ne-eqb, not-true, not-false}
 use Rattle.numbers.specs.BigEndian.{withNumberAt}
 use Rattle.numbers.proofs.Bytes.{written-out}
+use Rattle.terms.specs.declared.Verdict.the-variants.{Done}
+use Rattle.terms.specs.Ladder.{if_then_else_, need_or_then_}
+use Rattle.terms.specs.Verdict.{verdictNumber}
 use Rattle.wire.specs.declared.Fields.{Fields}
 use Rattle.wire.specs.declared.Message.{Message}
-use Rattle.wire.specs.declared.Verdict.the-variants.{Done}
-use Rattle.wire.specs.Ladder.{if_then_else_, need_or_then_}
 use Rattle.wire.specs.Table.{keepsTable}
 use Rattle.wire.specs.Message.{fieldsOf}
 use Rattle.wire.specs.Packet.{packetLength, version, packetWith, packetOf, withMessage, written, writePacket}
-use Rattle.wire.specs.Verdict.{verdictNumber}
 
 -- the stores of the fields, one after the other
 abbrev stores : List ℕ → Fields → List ℕ

@@ -1,10 +1,3 @@
-pub mod Ladder
-pub mod Rounds
-pub mod Values
 pub mod Table
 pub mod Message
-pub mod Verdict
 pub mod Packet
-pub mod Step
-pub mod Columns
-pub mod Promises

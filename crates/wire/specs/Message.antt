@@ -3,15 +3,15 @@
 -- Assumes nothing.
 use Prim.Native.Nat.{ℕ}
 use lib.Dec.{eqb}
-use Rattle.wire.specs.declared.Instance.{Instance}
-use Rattle.wire.specs.declared.Round.{Round}
-use Rattle.wire.specs.declared.Value.{Value}
+use Rattle.terms.specs.declared.Instance.{Instance}
+use Rattle.terms.specs.declared.Round.{Round}
+use Rattle.terms.specs.declared.Value.{Value}
+use Rattle.terms.specs.Ladder.{if_then_else_}
+use Rattle.terms.specs.Rounds.{theInstance, theRound, none, ownerOf}
+use Rattle.terms.specs.Values.{null}
 use Rattle.wire.specs.declared.Fields.{Fields}
 use Rattle.wire.specs.declared.Message.{Message}
 use Rattle.wire.specs.declared.Message.the-variants.{Request, Prepare, Promise, Propose, Vote}
-use Rattle.wire.specs.Ladder.{if_then_else_}
-use Rattle.wire.specs.Rounds.{theInstance, theRound, none, ownerOf}
-use Rattle.wire.specs.Values.{null}
 
 abbrev pub fields : (kind switch : ℕ) → Instance → (round voteRound : Round) → Value → Fields
 fields k s i r b v = record { kind = k; switch = s; instance = i; round = r; «vote_round» = b; value = v }

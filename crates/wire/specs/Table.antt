@@ -2,13 +2,12 @@
 -- Assumes nothing.
 use mathlib.Core.Bool.{Bool, true, false, not, _&&_, _||_}
 use lib.Dec.{eqb, leb}
-use Rattle.wire.specs.declared.Round.{Round}
-use Rattle.wire.specs.declared.Value.{Value}
+use Rattle.terms.specs.declared.Round.{Round}
+use Rattle.terms.specs.Ladder.{if_then_else_}
+use Rattle.terms.specs.Rounds.{isNone, nobody, ownerOf, ownedOr0, ownedNot0, atMost, sameRound}
+use Rattle.terms.specs.Values.{isNull}
 use Rattle.wire.specs.declared.Fields.{Fields}
 use Rattle.wire.specs.declared.Row.{Row}
-use Rattle.wire.specs.Ladder.{if_then_else_}
-use Rattle.wire.specs.Rounds.{isNone, nobody, ownerOf, ownedOr0, ownedNot0, atMost, sameRound}
-use Rattle.wire.specs.Values.{isNull}
 
 abbrev pub row : (switch instance round voteRound value : Bool) → Row
 row s i r b v = record { switch = s; instance = i; round = r; «vote_round» = b; value = v }
@@ -64,8 +63,3 @@ allKept r = r .switch && r .instance && r .round && r .«vote_round» && r .valu
 
 unfoldable pub keepsTable : Fields → Bool
 keepsTable f = allKept (tableRow f)
-
--- What an acceptor can have voted up to a round: vote round none with null value, or owned or 0 and at most the round.
--- A promise's last two columns say this of its round, and the cells of acceptors and backups say it of theirs.
-unfoldable pub isVoteBy : (round voteRound : Round) → Value → Bool
-isVoteBy round voteRound value = (isNone voteRound && isNull value) || (ownedOr0 voteRound && atMost voteRound round)

@@ -3,23 +3,13 @@ ghost use mathlib.Core.Path.{_≡_};
 ghost use mathlib.Core.List.{[], _∷_};
 ghost use lib.ListN.{length};
 ghost use lib.Seq.{sets};
-ghost use Rattle.wire.specs.Rounds.{isNone, ownerOf, ownedOr0, ownedNot0, rank, atMost, sameRound};
-ghost use Rattle.wire.specs.Values.{isNull, sameValue};
-ghost use Rattle.wire.specs.Table.{byOwner, requestRow, prepareRow, promiseRow, proposeRow, voteRow, allKept, keepsTable, isVoteBy};
+ghost use Rattle.wire.specs.Table.{byOwner, requestRow, prepareRow, promiseRow, proposeRow, voteRow, allKept, keepsTable};
 ghost use Rattle.wire.specs.Message.{messageOf, fieldsOf};
 ghost use Rattle.wire.specs.Packet.{packetLength, marked, fieldsIn, readPacket, refusalOf, packetWith, withMessage, written, writePacket};
-ghost use Rattle.wire.specs.Verdict.{verdictNumber};
-ghost use Rattle.wire.specs.Step.{placed, nowhereOf};
-
-pub struct Instance(pub u32);
-
-pub struct Round(pub u32);
-
-// Sixteen bytes, as two big-endian halves.
-pub struct Value {
-    pub high: u64,
-    pub low: u64,
-}
+use terms::Instance;
+use terms::Round;
+use terms::Value;
+use terms::Verdict;
 
 // The fields of a packet, as they stand there. `kind` is its type.
 pub struct Fields {
@@ -66,24 +56,6 @@ pub enum Reading {
     Refused(u32),
 }
 
-// Where a message's cell stands, or the refusal.
-pub enum Place {
-    At(usize),
-    Nowhere(u32),
-}
-
-// What a call says to do. `Done` is for the calls that send and count nothing, and the last two for those that have nothing to tell.
-pub enum Verdict {
-    ToAcceptors,
-    ToLeader,
-    ToLearners,
-    Hold,
-    Decided,
-    Done,
-    NotYet,
-    NoHole,
-}
-
 // Which columns of the packet table the fields keep.
 pub struct Row {
     pub switch: bool,
@@ -93,130 +65,9 @@ pub struct Row {
     pub value: bool,
 }
 
-// The round number that marks "none".
-pub const NONE: u32 = 4294967295;
-
-// The owners' numbers are 0 to 3, and this is the number of nobody.
-pub const NOBODY: u16 = 4;
-
 pub const PACKET_LENGTH: usize = 36;
 
 const VERSION: u16 = 1;
-
-// Verdicts as numbers lie above every refusal.
-pub fn verdict_number(verdict: Verdict) -> u32
-    ensures { λ r. ⌜ r ≡ verdictNumber verdict ⌝ }
-{
-    match verdict {
-        Verdict::ToAcceptors => 101,
-        Verdict::ToLeader => 102,
-        Verdict::ToLearners => 103,
-        Verdict::Hold => 104,
-        Verdict::Decided => 105,
-        Verdict::Done => 106,
-        Verdict::NotYet => 107,
-        Verdict::NoHole => 108,
-    }
-}
-
-pub fn is_none(round: Round) -> bool
-    ensures { λ r. ⌜ r ≡ isNone round ⌝ }
-{
-    round.0 == NONE
-}
-
-// Who owns a round: 0 the primary, 1 to 3 that backup, or nobody. None, whose remainder is 3, is no round.
-pub fn owner(round: Round) -> u16
-    ensures { λ r. ⌜ r ≡ ownerOf round ⌝ }
-{
-    let number = round.0;
-    if number == 0 {
-        return 0;
-    }
-    if number == NONE {
-        return NOBODY;
-    }
-    let remainder = number % 4;
-    if remainder == 0 {
-        return NOBODY;
-    }
-    remainder as u16
-}
-
-pub fn owned_or_0(round: Round) -> bool
-    ensures { λ r. ⌜ r ≡ ownedOr0 round ⌝ }
-{
-    owner(round) <= 3
-}
-
-pub fn owned_not_0(round: Round) -> bool
-    ensures { λ r. ⌜ r ≡ ownedNot0 round ⌝ }
-{
-    let number = owner(round);
-    (1 <= number) & (number <= 3)
-}
-
-// One more than the round. None, the largest number, comes to 0: any beats none.
-fn rank_of(round: Round) -> u64
-    ensures { λ r. ⌜ r ≡ rank round ⌝ }
-{
-    ((round.0 as u64) + 1) % 4294967296
-}
-
-pub fn at_most(a: Round, b: Round) -> bool
-    ensures { λ r. ⌜ r ≡ atMost a b ⌝ }
-{
-    rank_of(a) <= rank_of(b)
-}
-
-pub fn same_round(a: Round, b: Round) -> bool
-    ensures { λ r. ⌜ r ≡ sameRound a b ⌝ }
-{
-    a.0 == b.0
-}
-
-pub fn is_null(value: Value) -> bool
-    ensures { λ r. ⌜ r ≡ isNull value ⌝ }
-{
-    (value.high == 0) & (value.low == 0)
-}
-
-pub fn same_value(v: Value, w: Value) -> bool
-    ensures { λ r. ⌜ r ≡ sameValue v w ⌝ }
-{
-    (v.high == w.high) & (v.low == w.low)
-}
-
-// A vote round none is looked at first, so that a cell that never voted takes one branch.
-pub fn is_vote_by(round: Round, vote_round: Round, value: Value) -> bool
-    ensures { λ r. ⌜ r ≡ isVoteBy round «vote_round» value ⌝ }
-{
-    if is_none(vote_round) {
-        return is_null(value);
-    }
-    owned_or_0(vote_round) & at_most(vote_round, round)
-}
-
-// A cell is chosen by an instance alone.
-pub fn place_of(instances: u32, instance: Instance) -> Place
-    ensures { λ r. ⌜ r ≡ placed instances instance ⌝ }
-{
-    let number = instance.0;
-    if number < instances {
-        return Place::At(number as usize);
-    }
-    Place::Nowhere(8)
-}
-
-// The refusal's number, or 0, as `refusal` of a reading.
-pub fn nowhere(place: Place) -> u32
-    ensures { λ r. ⌜ r ≡ nowhereOf place ⌝ }
-{
-    match place {
-        Place::At(_) => 0,
-        Place::Nowhere(number) => number,
-    }
-}
 
 fn request_row(f: Fields) -> Row
     ensures { λ r. ⌜ r ≡ requestRow f ⌝ }
@@ -225,8 +76,8 @@ fn request_row(f: Fields) -> Row
         switch: true,
         instance: f.instance.0 == 0,
         round: f.round.0 == 0,
-        vote_round: is_none(f.vote_round),
-        value: !is_null(f.value),
+        vote_round: terms::is_none(f.vote_round),
+        value: !terms::is_null(f.value),
     }
 }
 
@@ -236,23 +87,23 @@ fn prepare_row(f: Fields) -> Row
     Row {
         switch: by_owner(f),
         instance: true,
-        round: owned_not_0(f.round),
-        vote_round: is_none(f.vote_round),
-        value: is_null(f.value),
+        round: terms::owned_not_0(f.round),
+        vote_round: terms::is_none(f.vote_round),
+        value: terms::is_null(f.value),
     }
 }
 
 fn promise_row(f: Fields) -> Row
     ensures { λ r. ⌜ r ≡ promiseRow f ⌝ }
 {
-    let never = is_none(f.vote_round);
-    let before = owned_or_0(f.vote_round) & at_most(f.vote_round, f.round);
+    let never = terms::is_none(f.vote_round);
+    let before = terms::owned_or_0(f.vote_round) & terms::at_most(f.vote_round, f.round);
     Row {
         switch: f.switch <= 6,
         instance: true,
-        round: owned_not_0(f.round),
+        round: terms::owned_not_0(f.round),
         vote_round: never | before,
-        value: !never | is_null(f.value),
+        value: !never | terms::is_null(f.value),
     }
 }
 
@@ -262,8 +113,8 @@ fn propose_row(f: Fields) -> Row
     Row {
         switch: by_owner(f),
         instance: true,
-        round: owned_or_0(f.round),
-        vote_round: is_none(f.vote_round),
+        round: terms::owned_or_0(f.round),
+        vote_round: terms::is_none(f.vote_round),
         value: true,
     }
 }
@@ -274,8 +125,8 @@ fn vote_row(f: Fields) -> Row
     Row {
         switch: f.switch <= 6,
         instance: true,
-        round: owned_or_0(f.round),
-        vote_round: same_round(f.vote_round, f.round),
+        round: terms::owned_or_0(f.round),
+        vote_round: terms::same_round(f.vote_round, f.round),
         value: true,
     }
 }
@@ -283,8 +134,8 @@ fn vote_row(f: Fields) -> Row
 fn by_owner(f: Fields) -> bool
     ensures { λ r. ⌜ r ≡ byOwner f ⌝ }
 {
-    let number = owner(f.round);
-    (number == NOBODY) | (f.switch == number)
+    let number = terms::owner(f.round);
+    (number == terms::NOBODY) | (f.switch == number)
 }
 
 fn all_kept(row: Row) -> bool
@@ -356,15 +207,15 @@ fn fields_of(message: Message) -> Fields
             switch,
             instance: Instance(0),
             round: Round(0),
-            vote_round: Round(NONE),
+            vote_round: Round(terms::NONE),
             value,
         },
         Message::Prepare { instance, round } => Fields {
             kind: 1,
-            switch: owner(round),
+            switch: terms::owner(round),
             instance,
             round,
-            vote_round: Round(NONE),
+            vote_round: Round(terms::NONE),
             value: Value { high: 0, low: 0 },
         },
         Message::Promise {
@@ -387,10 +238,10 @@ fn fields_of(message: Message) -> Fields
             value,
         } => Fields {
             kind: 3,
-            switch: owner(round),
+            switch: terms::owner(round),
             instance,
             round,
-            vote_round: Round(NONE),
+            vote_round: Round(terms::NONE),
             value,
         },
         Message::Vote {
@@ -511,5 +362,5 @@ pub fn write_packet(packet: &mut [u8], message: Message) -> u32
         return 5;
     }
     put_fields(packet, f);
-    verdict_number(Verdict::Done)
+    terms::verdict_number(Verdict::Done)
 }

@@ -2,7 +2,7 @@
 -- Assumes nothing.
 use denote.Ref.{now}
 use mathlib.Core.Path.{sym, _∙_}
-use Rattle.wire.proofs.Steps.{sent}
+use Rattle.player.proofs.Steps.{sent}
 use Rattle.acceptor.specs.Acceptor.{tables, Within}
 use Rattle.acceptor.proofs.Ways.{prepare, cell-within, nowhere, refused-17, refused-10, obeyed}
 use borrow.Author.Needs.{needs}

@@ -4,22 +4,22 @@ use Prim.Native.Nat.{ℕ, _≤_, _<_}
 use mathlib.Core.Path.{_≡_, refl, sym, ap, _∙_, subst}
 use mathlib.Core.Bool.{true, false}
 use mathlib.Core.List.{List, _∷_}
-use Rattle.wire.specs.declared.Instance.{Instance}
+use Rattle.terms.specs.declared.Instance.{Instance}
+use Rattle.terms.specs.declared.Round.{Round}
+use Rattle.terms.specs.declared.Value.{Value}
+use Rattle.terms.specs.Ladder.{if_then_else_}
+use Rattle.terms.specs.Rounds.{ownedOr0, atMost}
+use Rattle.terms.specs.Votes.{isVoteBy}
+use Rattle.terms.specs.Verdict.{saysSend}
+use Rattle.terms.proofs.Ladder.{if-false, both-true}
+use Rattle.terms.proofs.Places.{placed-index}
+use Rattle.terms.proofs.Rounds.{at-least}
 use Rattle.wire.specs.declared.Message.{Message}
 use Rattle.wire.specs.declared.Message.the-variants as kind
 use Rattle.wire.specs.declared.Reading.the-variants.{Read}
-use Rattle.wire.specs.declared.Round.{Round}
-use Rattle.wire.specs.declared.Value.{Value}
-use Rattle.wire.specs.Ladder.{if_then_else_}
 use Rattle.wire.specs.Packet.{packetOf}
-use Rattle.wire.specs.Rounds.{ownedOr0, atMost}
-use Rattle.wire.specs.Step.{unchanged, ruled}
-use Rattle.wire.specs.Table.{isVoteBy}
-use Rattle.wire.specs.Verdict.{saysSend}
-use Rattle.wire.proofs.Ladder.{if-false, both-true}
 use Rattle.wire.proofs.Laws.{Writable, read-writable, written-reads}
-use Rattle.wire.proofs.Steps.{placed-index}
-use Rattle.wire.proofs.Rounds.{at-least}
+use Rattle.player.specs.Step.{unchanged, ruled}
 use Rattle.quorum.specs.declared.Settings.{Settings}
 use Rattle.quorum.specs.Voters.{Mem, newest, older}
 use Rattle.acceptor.specs.declared.Cell.{Cell}

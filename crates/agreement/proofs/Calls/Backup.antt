@@ -4,34 +4,35 @@ use Prim.Native.Nat.{ℕ, _<_, max}
 use mathlib.Core.Path.{_≡_, refl, sym, ap, _∙_, subst}
 use mathlib.Core.Bool.{true, false}
 use mathlib.Core.List.{List, _∷_}
-use Rattle.wire.specs.declared.Instance.{Instance}
+use Rattle.terms.specs.declared.Instance.{Instance}
+use Rattle.terms.specs.declared.Place.the-variants.{At, Nowhere}
+use Rattle.terms.specs.declared.Round.{Round}
+use Rattle.terms.specs.declared.Value.{Value}
+use Rattle.terms.specs.declared.Verdict.the-variants.{ToAcceptors, Hold}
+use Rattle.terms.specs.Ladder.{if_then_else_}
+use Rattle.terms.specs.Rounds.{theRound}
+use Rattle.terms.specs.Places.{placed}
+use Rattle.terms.specs.Verdict.{saysSend}
+use Rattle.terms.proofs.Ladder.{if-elim, if-false}
+use Rattle.terms.proofs.Places.{PlacedBy, placed-index, placed-by}
 use Rattle.wire.specs.declared.Message.{Message}
 use Rattle.wire.specs.declared.Message.the-variants as kind
-use Rattle.wire.specs.declared.Place.the-variants.{At, Nowhere}
 use Rattle.wire.specs.declared.Reading.the-variants.{Read}
-use Rattle.wire.specs.declared.Round.{Round}
-use Rattle.wire.specs.declared.Value.{Value}
-use Rattle.wire.specs.declared.Verdict.the-variants.{ToAcceptors, Hold}
-use Rattle.wire.specs.Ladder.{if_then_else_}
 use Rattle.wire.specs.Message.{whenPromise}
 use Rattle.wire.specs.Packet.{packetOf}
-use Rattle.wire.specs.Rounds.{theRound}
-use Rattle.wire.specs.Step.{unchanged, sends, counts, placed, ruled}
-use Rattle.wire.specs.Verdict.{saysSend}
 use Rattle.wire.proofs.Eliminators.{promise-elim}
-use Rattle.wire.proofs.Ladder.{if-elim, if-false}
 use Rattle.wire.proofs.Laws.{Writable, read-writable}
-use Rattle.wire.proofs.Steps.{PlacedBy, placed-index, placed-by}
+use Rattle.player.specs.Step.{unchanged, sends, counts, ruled}
 use Rattle.quorum.specs.declared.Settings.{Settings}
 use Rattle.quorum.specs.Quorum.{Quorum, within, reachesMajority}
 use Rattle.quorum.specs.Voters.{Mem, newest, older}
 use Rattle.quorum.proofs.Laws.{with-member-within}
 use Rattle.takeover.specs.declared.Cell.{Cell}
 use Rattle.takeover.specs.Takeover.{asking, counting, chosen, closed, started, nextRound, whenMajority}
-use Rattle.backup.specs.Backup.{Tables, cellAt, withCell, Sized, backupStep, backupStart}
-use Rattle.backup.specs.Backup as players
 use Rattle.takeover.proofs.Next.{next-smallest}
 use Rattle.takeover.proofs.Laws.{rule-elim, asking-started, start-rule-elim}
+use Rattle.backup.specs.Backup.{Tables, cellAt, withCell, Sized, backupStep, backupStart}
+use Rattle.backup.specs.Backup as players
 use Rattle.backup.proofs.Promises.{start-elim, propose-sent, prepare-sent, cell-there, cell-apart}
 use Rattle.backup.proofs.Ways.{allowed-tables, index-within}
 use Rattle.agreement.specs.Run.{backup, Sent, sent, Boxes, put, afterBackup, Handed, Given}

@@ -7,22 +7,23 @@ use mathlib.Core.List.{List, _∷_}
 use native.Mathlib.Omega.{arith}
 use lib.Dec.{eqb}
 use borrow.Author.Tests.{eqb-true}
-use Rattle.wire.specs.declared.Instance.{Instance}
+use Rattle.terms.specs.declared.Instance.{Instance}
+use Rattle.terms.specs.declared.Place.the-variants.{At, Nowhere}
+use Rattle.terms.specs.declared.Round.{Round}
+use Rattle.terms.specs.declared.Value.{Value}
+use Rattle.terms.specs.declared.Verdict.the-variants.{Hold, Decided}
+use Rattle.terms.specs.Ladder.{if_then_else_}
+use Rattle.terms.specs.Rounds.{theRound}
+use Rattle.terms.specs.Places.{placed}
+use Rattle.terms.specs.Values.{sameValue}
+use Rattle.terms.specs.Verdict.{saysSend}
+use Rattle.terms.proofs.Ladder.{if-elim, if-false, both-true}
+use Rattle.terms.proofs.Places.{PlacedBy, placed-index, placed-by}
 use Rattle.wire.specs.declared.Message.the-variants as kind
-use Rattle.wire.specs.declared.Place.the-variants.{At, Nowhere}
 use Rattle.wire.specs.declared.Reading.the-variants.{Read}
-use Rattle.wire.specs.declared.Round.{Round}
-use Rattle.wire.specs.declared.Value.{Value}
-use Rattle.wire.specs.declared.Verdict.the-variants.{Hold, Decided}
-use Rattle.wire.specs.Ladder.{if_then_else_}
 use Rattle.wire.specs.Message.{whenVote}
-use Rattle.wire.specs.Rounds.{theRound}
-use Rattle.wire.specs.Step.{unchanged, counts, placed, ruled}
-use Rattle.wire.specs.Values.{sameValue}
-use Rattle.wire.specs.Verdict.{saysSend}
 use Rattle.wire.proofs.Eliminators.{vote-elim}
-use Rattle.wire.proofs.Ladder.{if-elim, if-false, both-true}
-use Rattle.wire.proofs.Steps.{PlacedBy, placed-index, placed-by}
+use Rattle.player.specs.Step.{unchanged, counts, ruled}
 use Rattle.quorum.specs.declared.Settings.{Settings}
 use Rattle.quorum.specs.Voters.{Mem}
 use Rattle.quorum.proofs.Laws.{empty-bit}

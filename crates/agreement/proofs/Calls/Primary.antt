@@ -6,18 +6,18 @@ use mathlib.Core.Bool.{false}
 use mathlib.Core.List.{List, [], _∷_}
 use native.Mathlib.Omega.{arith}
 use lib.ListN.{getD}
+use Rattle.terms.specs.declared.Value.{Value}
+use Rattle.terms.specs.Ladder.{if_then_else_}
+use Rattle.terms.specs.Rounds.{theInstance, theRound}
+use Rattle.terms.specs.Verdict.{saysSend}
+use Rattle.terms.proofs.Ladder.{if-false}
+use Rattle.terms.proofs.Places.{PlacedBy}
 use Rattle.wire.specs.declared.Message.the-variants as kind
 use Rattle.wire.specs.declared.Reading.the-variants.{Read}
-use Rattle.wire.specs.declared.Value.{Value}
-use Rattle.wire.specs.Ladder.{if_then_else_}
 use Rattle.wire.specs.Packet.{packetOf}
-use Rattle.wire.specs.Rounds.{theInstance, theRound}
-use Rattle.wire.specs.Step.{unchanged, ruled}
-use Rattle.wire.specs.Verdict.{saysSend}
 use Rattle.wire.proofs.Eliminators.{request-elim}
-use Rattle.wire.proofs.Ladder.{if-false}
 use Rattle.wire.proofs.Laws.{Writable, read-writable}
-use Rattle.wire.proofs.Steps.{PlacedBy}
+use Rattle.player.specs.Step.{unchanged, ruled}
 use Rattle.quorum.specs.declared.Settings.{Settings}
 use Rattle.quorum.specs.Voters.{newest, older}
 use Rattle.primary.specs.Primary.{thePrimary, primary, primaryStep, lent, lentStep}

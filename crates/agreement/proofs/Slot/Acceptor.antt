@@ -5,9 +5,9 @@ use mathlib.Core.Path.{_≡_}
 use mathlib.Core.List.{_∷_}
 use native.Mathlib.Nat.{lt-of-lt-of-le, le-refl, le-trans}
 use native.Mathlib.Omega.{arith}
-use Rattle.wire.specs.declared.Round.{Round}
-use Rattle.wire.specs.Rounds.{rank}
-use Rattle.wire.proofs.Rounds.{rank-some, rank-most}
+use Rattle.terms.specs.declared.Round.{Round}
+use Rattle.terms.specs.Rounds.{rank}
+use Rattle.terms.proofs.Rounds.{rank-some, rank-most}
 use Rattle.quorum.specs.Voters.{Mem, older}
 use Rattle.acceptor.specs.declared.Cell.{Cell}
 use Rattle.acceptor.specs.Acceptor.{cell}

@@ -10,12 +10,12 @@ use native.Mathlib.Decide.{decLt}
 use native.Mathlib.Omega.{arith}
 use lib.Dec.{eqb}
 use borrow.Author.Tests.{leb-true, leb-false}
-use Rattle.wire.specs.declared.Round.{Round}
-use Rattle.wire.specs.declared.Value.{Value}
-use Rattle.wire.specs.Ladder.{if_then_else_}
-use Rattle.wire.specs.Rounds.{theRound, isNone, ownerOf, rank, atMost}
-use Rattle.wire.proofs.Ladder.{if-elim}
-use Rattle.wire.proofs.Rounds.{rank-none, rank-some}
+use Rattle.terms.specs.declared.Round.{Round}
+use Rattle.terms.specs.declared.Value.{Value}
+use Rattle.terms.specs.Ladder.{if_then_else_}
+use Rattle.terms.specs.Rounds.{theRound, isNone, ownerOf, rank, atMost}
+use Rattle.terms.proofs.Ladder.{if-elim}
+use Rattle.terms.proofs.Rounds.{rank-none, rank-some}
 use Rattle.quorum.specs.Quorum.{Member, Quorum, withMember}
 use Rattle.quorum.specs.Voters.{Mem}
 use Rattle.quorum.proofs.Laws.{empty-bit, with-member-cases}

@@ -6,8 +6,8 @@ use mathlib.Core.Bool.{false}
 use mathlib.Core.List.{_∷_}
 use native.Mathlib.Nat.{lt-of-lt-of-le}
 use native.Mathlib.Omega.{arith}
-use Rattle.wire.specs.declared.Value.{Value}
-use Rattle.wire.specs.Rounds.{theRound, isNone, ownerOf}
+use Rattle.terms.specs.declared.Value.{Value}
+use Rattle.terms.specs.Rounds.{theRound, isNone, ownerOf}
 use Rattle.quorum.specs.Voters.{Mem, older}
 use Rattle.takeover.specs.declared.Cell.{Cell}
 use Rattle.agreement.proofs.Basics.{extend}

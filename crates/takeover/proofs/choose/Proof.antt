@@ -1,7 +1,7 @@
 -- `takeover::choose` meets its contract: each return is a side of the choice.
 -- Assumes nothing.
 use mathlib.Core.Path.{sym, _∙_}
-use Rattle.wire.proofs.Ladder.{if-true, if-false}
+use Rattle.terms.proofs.Ladder.{if-true, if-false}
 use Rattle.takeover.specs.Takeover.{chosen}
 use borrow.Author.Needs.{needs}
 use Rattle.takeover.proofs.choose.Statement.{statement}

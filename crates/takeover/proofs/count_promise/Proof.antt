@@ -1,7 +1,7 @@
 -- `takeover::count_promise` meets its contract: each return is a side of the choice, by the order of the vote rounds.
 -- Assumes nothing.
 use mathlib.Core.Path.{sym, _∙_}
-use Rattle.wire.proofs.Ladder.{if-true, if-false}
+use Rattle.terms.proofs.Ladder.{if-true, if-false}
 use Rattle.takeover.specs.Takeover.{counting}
 use borrow.Author.Needs.{needs}
 use Rattle.takeover.proofs.count_promise.Statement.{statement}

@@ -2,7 +2,7 @@
 -- Assumes nothing.
 use mathlib.Core.Path.{sym, _∙_}
 use borrow.Author.Tests.{not-true, not-false}
-use Rattle.wire.proofs.Ladder.{if-true, if-false}
+use Rattle.terms.proofs.Ladder.{if-true, if-false}
 use Rattle.takeover.specs.Takeover.{whenMajority}
 use borrow.Author.Needs.{needs}
 use Rattle.takeover.proofs.propose_at_majority.Statement.{statement}

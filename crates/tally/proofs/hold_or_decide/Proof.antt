@@ -1,7 +1,7 @@
 -- `tally::hold_or_decide` meets its contract: each return is a side of the choice.
 -- Assumes nothing.
 use mathlib.Core.Path.{sym, _∙_}
-use Rattle.wire.proofs.Ladder.{if-true, if-false}
+use Rattle.terms.proofs.Ladder.{if-true, if-false}
 use Rattle.tally.specs.Counting.{whenDecided}
 use borrow.Author.Needs.{needs}
 use Rattle.tally.proofs.hold_or_decide.Statement.{statement}

@@ -1,7 +1,7 @@
 -- `wire::keeps_table` meets its contract: each arm is the row of its type, and no type above 4 has one.
 -- Assumes nothing.
 use borrow.Author.Tests.{ne-eqb}
-use Rattle.wire.specs.Ladder.{if_then_else_}
+use Rattle.terms.specs.Ladder.{if_then_else_}
 use Rattle.wire.specs.Table.{tableRow, keepsTable}
 use borrow.Author.Needs.{needs}
 use Rattle.wire.proofs.keeps_table.Statement.{statement}

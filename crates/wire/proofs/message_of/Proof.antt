@@ -1,7 +1,7 @@
 -- `wire::message_of` meets its contract: each return is a case of `messageOf`, by the tests that led there.
 -- Assumes nothing.
 use borrow.Author.Tests.{ne-eqb}
-use Rattle.wire.specs.Ladder.{if_then_else_}
+use Rattle.terms.specs.Ladder.{if_then_else_}
 use Rattle.wire.specs.Message.{messageOf}
 use Rattle.wire.proofs.message_of.Statement.{statement}
 use Rattle.wire.proofs.message_of.Tie as tie
