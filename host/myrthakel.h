@@ -71,6 +71,17 @@ uint32_t myrthakel_primary_step(uint32_t acceptors, uint32_t instances,
                                 uint32_t *next, size_t next_length);
 
 /*
+ * The same with the record lent by reference, as a struct of the next instance, fresh 0. Refusals: 7, 1 to 5, 6, 17, 12.
+ */
+struct myrthakel_primary {
+    uint32_t next;
+};
+
+uint32_t myrthakel_primary_request(uint32_t acceptors, uint32_t instances,
+                                   uint8_t *packet, size_t packet_length,
+                                   struct myrthakel_primary *primary);
+
+/*
  * An acceptor, with its own number below M. Reads a prepare or a propose from the packet and writes a promise over it, for the leader, or a vote, for the
  * learners. Tables: N rounds (fresh 0), N vote rounds (fresh none) and 2N numbers of values (fresh 0); the cell of the packet's instance changes
  * alone. Refusals: 7, 1 to 5, 6, 8, 17, 10.

@@ -94,6 +94,41 @@ static void primary_cases(void)
     expect(myrthakel_primary_step(M, N, packet, 36, &next, 1) == MYRTHAKEL_BROKEN_FIELD && next == 0, "a null request is refused");
 }
 
+static void request_cases(void)
+{
+    uint8_t packet[MYRTHAKEL_PACKET_LENGTH + 1] = {0}, before[MYRTHAKEL_PACKET_LENGTH];
+    struct myrthakel_primary primary = {0};
+    make(packet, 0, 9, 0, 0, MYRTHAKEL_NONE, 0x2a);
+    expect(myrthakel_primary_request(M, N, packet, 36, &primary) == MYRTHAKEL_TO_ACCEPTORS, "by reference: a request becomes a propose");
+    expect(is_packet(packet, 3, 0, 0, 0, MYRTHAKEL_NONE, 0x2a), "by reference: with instance 0, round 0, switch number 0 and its value");
+    make(packet, 0, 9, 0, 0, MYRTHAKEL_NONE, 0x2a);
+    expect(myrthakel_primary_request(M, N, packet, 36, &primary) == MYRTHAKEL_TO_ACCEPTORS, "by reference: a repeated request is taken");
+    expect(is_packet(packet, 3, 0, 1, 0, MYRTHAKEL_NONE, 0x2a) && primary.next == 2, "by reference: and gets a second instance");
+    memcpy(before, packet, sizeof before);
+    expect(myrthakel_primary_request(M, N, packet, 36, &primary) == MYRTHAKEL_WRONG_KIND, "by reference: a propose is refused");
+    expect(memcmp(packet, before, sizeof before) == 0 && primary.next == 2, "by reference: the refusal changes nothing");
+
+    primary.next = 0;
+    make(packet, 0, 9, 0, 0, MYRTHAKEL_NONE, 0x2a);
+    expect(myrthakel_primary_request(M, 1, packet, 36, &primary) == MYRTHAKEL_TO_ACCEPTORS, "by reference: N = 1: the first request is taken");
+    make(packet, 0, 9, 0, 0, MYRTHAKEL_NONE, 0x2a);
+    memcpy(before, packet, sizeof before);
+    expect(myrthakel_primary_request(M, 1, packet, 36, &primary) == MYRTHAKEL_NO_INSTANCE_LEFT && primary.next == 1, "by reference: N = 1: the second is refused");
+    primary.next = 2;
+    expect(myrthakel_primary_request(M, 1, packet, 36, &primary) == MYRTHAKEL_IMPOSSIBLE_CELL && primary.next == 2, "by reference: next above N is impossible");
+    primary.next = 0;
+    expect(myrthakel_primary_request(2, N, packet, 36, &primary) == MYRTHAKEL_NOT_ALLOWED, "by reference: M = 2 is refused");
+    expect(myrthakel_primary_request(M, 0, packet, 36, &primary) == MYRTHAKEL_NOT_ALLOWED, "by reference: N = 0 is refused");
+    expect(myrthakel_primary_request(M, 1025, packet, 36, &primary) == MYRTHAKEL_NOT_ALLOWED, "by reference: N = 1,025 is refused");
+    expect(myrthakel_primary_request(M, N, packet, 35, &primary) == MYRTHAKEL_WRONG_LENGTH, "by reference: 35 bytes are refused");
+    expect(myrthakel_primary_request(M, N, packet, 37, &primary) == MYRTHAKEL_WRONG_LENGTH, "by reference: 37 bytes are refused");
+    expect(memcmp(packet, before, sizeof before) == 0 && primary.next == 0, "by reference: no refusal changes anything");
+    expect(myrthakel_primary_request(M, 1024, packet, 36, &primary) == MYRTHAKEL_TO_ACCEPTORS && primary.next == 1, "by reference: N = 1,024 is allowed");
+    primary.next = 0;
+    make(packet, 0, 9, 0, 0, MYRTHAKEL_NONE, 0);
+    expect(myrthakel_primary_request(M, N, packet, 36, &primary) == MYRTHAKEL_BROKEN_FIELD && primary.next == 0, "by reference: a null request is refused");
+}
+
 typedef struct {
     uint32_t rounds[N], best_vote_rounds[N];
     uint8_t phases[N], sets[N];
@@ -174,6 +209,7 @@ int main(void)
 {
     acceptor_cases();
     primary_cases();
+    request_cases();
     backup_cases();
     return told();
 }

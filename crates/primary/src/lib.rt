@@ -11,6 +11,7 @@ use wire::Message;
 use wire::Reading;
 
 // The primary's record, kept by its caller.
+#[repr(C)]
 pub struct Primary {
     pub next: Instance,
 }
@@ -97,5 +98,20 @@ pub extern "C" fn myrthakel_primary_step(
     };
     let stepped = step(acceptors, instances, primary, packet);
     next[0] = stepped.primary.next.0;
+    stepped.answer
+}
+
+// The record lent by reference: one thin call over the step by value.
+#[no_mangle]
+pub extern "C" fn myrthakel_primary_request(
+    acceptors: u32,
+    instances: u32,
+    packet: &mut [u8],
+    primary: &mut Primary,
+) -> u32
+    ensures { λ r. ⌜ outcome r (now (packet .exit)) (now (primary .exit)) ≡ primaryStep (settings acceptors instances) (now (packet .entry)) (now (primary .entry)) ⌝ }
+{
+    let stepped = step(acceptors, instances, *primary, packet);
+    *primary = stepped.primary;
     stepped.answer
 }

@@ -6,6 +6,7 @@ ghost use Rattle.terms.specs.Votes.{isVoteBy};
 ghost use Rattle.terms.specs.Places.{placed, nowhereOf};
 ghost use Rattle.terms.specs.Verdict.{verdictNumber};
 
+#[repr(C)]
 pub struct Instance(pub u32);
 
 pub struct Round(pub u32);

@@ -2,7 +2,13 @@
 -- promise is `Learnt`, what the checker lets a caller learn of it, so nothing is said here of a copy. What is lent by `&` cannot change.
 -- Assumes nothing.
 use mathlib.Core.Path.{_≡_}
+use contract.Lifetimes.{Lfts}
 use denote.Ref.{RefT, now}
+use denote.Triple.Clauses.{AtExit}
+use denote.Triple.Entry.{Args, Res}
+use Rattle.player.specs.Step.{outcome}
+use Rattle.quorum.specs.Settings.{settings}
+use Rattle.primary.specs.Primary.{primaryStep}
 use Rattle.numbers.proofs.read_u16.Reads as read-u16
 use Rattle.numbers.proofs.read_u32.Reads as read-u32
 use Rattle.numbers.proofs.read_u64.Reads as read-u64
@@ -36,6 +42,7 @@ use Rattle.quorum.proofs.reaches_majority.Reads as reaches-majority
 use Rattle.primary.proofs.fresh_primary.Reads as fresh-primary
 use Rattle.primary.proofs.step.Reads as primary-by-value
 use Rattle.primary.proofs.myrthakel_primary_step.Reads as primary-step
+use Rattle.primary.proofs.myrthakel_primary_request as primary-request
 use Rattle.acceptor.proofs.fresh_cell.Reads as fresh-acceptor-cell
 use Rattle.acceptor.proofs.myrthakel_acceptor_step.Reads as acceptor-step
 use Rattle.takeover.proofs.fresh_cell.Reads as fresh-takeover-cell
@@ -90,6 +97,11 @@ held-4 lent = (now (lent .0), now (lent .1 .0), now (lent .1 .1 .0), now (lent .
 abbrev pub held-7 : {A B C D E F G Rest : Type 0} → RefT A × (RefT B × (RefT C × (RefT D × (RefT E × (RefT F × (RefT G × Rest)))))) → A × B × C × D × E × F × G
 held-7 lent = (now (lent .0), now (lent .1 .0), now (lent .1 .1 .0), now (lent .1 .1 .1 .0), now (lent .1 .1 .1 .1 .0), now (lent .1 .1 .1 .1 .1 .0), now (lent .1 .1 .1 .1 .1 .1 .0))
 
+-- The call on a record lent by reference is proved by hand, and the checker reads no such promise off it. This is what its contract states (`requested-stated`).
+abbrev pub requested : (κs : Lfts 2) → Args primary-request.signature κs → Res primary-request.signature κs → AtExit primary-request.ended κs → Type 0
+requested κs entry answer exit =
+    outcome answer (now (exit .1 .1 .0)) (now (exit .1 .1 .1 .0)) ≡ primaryStep (settings (entry .0) (entry .1 .0)) (now (entry .1 .1 .0)) (now (entry .1 .1 .1 .0))
+
 -- Every public call of the library.
 pub record EveryCall : Type 0 where
   -- numbers
@@ -130,6 +142,7 @@ pub record EveryCall : Type 0 where
   pub of-fresh-primary : OneAnswer fresh-primary.Learnt
   pub of-primary-by-value : OneAnswer primary-by-value.Learnt × OneContent primary-by-value.Learnt (λ κs exit. held-1 (exit .1 .1 .1))
   pub of-primary-step : OneAnswer primary-step.Learnt × OneContent primary-step.Learnt (λ κs exit. held-2 (exit .1 .1))
+  pub of-primary-request : OneAnswer requested × OneContent requested (λ κs exit. held-2 (exit .1 .1))
   -- acceptor
   pub of-fresh-acceptor-cell : OneAnswer fresh-acceptor-cell.Learnt
   pub of-acceptor-step : OneAnswer acceptor-step.Learnt × OneContent acceptor-step.Learnt (λ κs exit. held-4 (exit .1 .1 .1))
