@@ -25,11 +25,11 @@ use Rattle.terms.proofs.Ladder.{need-elim, both-true, and-true}
 use Rattle.terms.proofs.Rounds.{owned-or-0, zero-owned}
 use Rattle.terms.proofs.Places.{PlacedBy, placed-index, placed-by}
 use Rattle.terms.proofs.Votes.{never-voted, vote-rises, vote-itself}
-use Rattle.wire.specs.declared.Message.{Message}
-use Rattle.wire.specs.declared.Message.the-variants.{Prepare, Promise, Propose, Vote}
-use Rattle.wire.specs.Table.{keepsTable}
-use Rattle.wire.specs.Message.{fieldsOf}
-use Rattle.wire.proofs.Eliminators.{prepare-elim, propose-elim}
+use Rattle.messages.specs.declared.Message.{Message}
+use Rattle.messages.specs.declared.Message.the-variants.{Prepare, Promise, Propose, Vote}
+use Rattle.messages.specs.Table.{keepsTable}
+use Rattle.messages.specs.Message.{fieldsOf}
+use Rattle.messages.proofs.Eliminators.{prepare-elim, propose-elim}
 use Rattle.wire.proofs.Laws.{Writable, prepare-owned, propose-owned}
 use Rattle.wire.proofs.Parts.{ValueFits, prepare-fits, propose-fits, propose-value-fits, promise-writable, vote-writable}
 use Rattle.player.specs.Promises.{OneOf, first, later, packetRefusals, NumbersAre, RefusalKeepsAll, UsesCell, OtherCellsStay, PossibleStays, SendsKept, FittingStays}

@@ -19,11 +19,11 @@ use Rattle.terms.specs.Rounds.{atMost}
 use Rattle.terms.specs.Places.{placed, nowhereOf}
 use Rattle.terms.proofs.Ladder.{both-true, need-passed, need-failed}
 use Rattle.terms.proofs.Places.{placed-index}
-use Rattle.wire.specs.declared.Message.{Message}
-use Rattle.wire.specs.declared.Message.the-variants.{Request, Prepare, Promise, Propose, Vote}
+use Rattle.messages.specs.declared.Message.{Message}
+use Rattle.messages.specs.declared.Message.the-variants.{Request, Prepare, Promise, Propose, Vote}
+use Rattle.messages.specs.Message.{whenPrepare, whenPropose}
 use Rattle.wire.specs.declared.Reading.{Reading}
 use Rattle.wire.specs.declared.Reading.the-variants.{Read, Refused}
-use Rattle.wire.specs.Message.{whenPrepare, whenPropose}
 use Rattle.wire.specs.Packet.{readPacket, refusalOf}
 use Rattle.player.specs.Step.{Outcome, unchanged, Ruling, refused, sends, ruled, act}
 use Rattle.player.proofs.Steps as steps

@@ -17,9 +17,9 @@ use Rattle.terms.specs.Values.{null}
 use Rattle.terms.specs.Votes.{isVoteBy}
 use Rattle.terms.specs.Places.{placed}
 use Rattle.terms.specs.Columns.{roundAt, withRound, valueAt, withValue, Below}
-use Rattle.wire.specs.declared.Message.{Message}
-use Rattle.wire.specs.declared.Message.the-variants.{Promise, Vote}
-use Rattle.wire.specs.Message.{whenPrepare, whenPropose}
+use Rattle.messages.specs.declared.Message.{Message}
+use Rattle.messages.specs.declared.Message.the-variants.{Promise, Vote}
+use Rattle.messages.specs.Message.{whenPrepare, whenPropose}
 use Rattle.player.specs.Step.{Outcome, Ruling, refused, sends, Player, step}
 use Rattle.quorum.specs.declared.Settings.{Settings}
 use Rattle.quorum.specs.Settings.{allowed}

@@ -1,18 +1,18 @@
 // The acceptor: obeys prepares and proposes whose round is at least its cell's, in tables lent by the caller.
 ghost use mathlib.Core.Path.{_≡_};
 ghost use lib.ListN.{length};
-ghost use Rattle.wire.specs.declared.Message.the-variants.{Prepare, Propose};
+ghost use Rattle.messages.specs.declared.Message.the-variants.{Prepare, Propose};
 ghost use Rattle.wire.specs.Packet.{packetLength};
 ghost use Rattle.player.specs.Step.{outcome, act};
 ghost use Rattle.quorum.specs.Settings.{settings};
 ghost use Rattle.acceptor.specs.Acceptor.{freshCell, possible, tables, Sized, Within, cellAt, withCell, acceptorAllowed, acceptor, acceptorStep};
+use messages::Message;
 use quorum::Settings;
 use terms::Instance;
 use terms::Place;
 use terms::Round;
 use terms::Value;
 use terms::Verdict;
-use wire::Message;
 use wire::Reading;
 
 // What an acceptor keeps of one instance.

@@ -13,7 +13,7 @@ use Rattle.quorum.specs.declared.Settings.{Settings}
 use Rattle.quorum.specs.Settings.{allowed}
 use Rattle.tally.specs.declared.Tally.{Tally}
 use Rattle.tally.specs.Tally.{isDecided, possible}
-use Rattle.learner.specs.Tables.{cellAt}
+use Rattle.tallies.specs.Tables.{cellAt}
 use Rattle.agreement.specs.Run.{Boxes, Later, Run, Decided, nothing, not-yet, says, said}
 use Rattle.agreement.specs.Agreement.{Agreed, Agreement, Demand3}
 use Rattle.agreement.proofs.Tidy.{run-tidy}

@@ -6,7 +6,7 @@ use mathlib.Core.Bool.{true}
 use Rattle.terms.specs.declared.Instance.{Instance}
 use Rattle.terms.specs.declared.Round.{Round}
 use Rattle.terms.specs.declared.Value.{Value}
-use Rattle.wire.specs.declared.Message.the-variants as kind
+use Rattle.messages.specs.declared.Message.the-variants as kind
 use Rattle.wire.specs.declared.Reading.the-variants.{Read}
 use Rattle.wire.specs.Packet.{readPacket}
 use Rattle.quorum.specs.declared.Settings.{Settings}
@@ -15,7 +15,7 @@ use Rattle.quorum.proofs.Laws.{quorums-share}
 use Rattle.quorum.proofs.Voters.{listed, set-of, half-iff}
 use Rattle.tally.specs.Tally.{isDecided, possible}
 use Rattle.tally.proofs.Laws.{possible-inside}
-use Rattle.learner.specs.Tables.{cellAt}
+use Rattle.tallies.specs.Tables.{cellAt}
 use Rattle.agreement.specs.Run.{Caller, acceptor, Sent, Boxes, Later, VoteSent, Decided}
 use Rattle.agreement.proofs.Slot.{Slot, vote, LearnerSound}
 use Rattle.agreement.proofs.Slot.Decision.{DecidedIn, one-decision}

@@ -10,7 +10,7 @@ use Rattle.terms.specs.declared.Value.{Value}
 use Rattle.terms.proofs.Ladder.{by-test, if-true, if-false}
 use Rattle.tally.specs.declared.Tally.{Tally}
 use Rattle.tally.specs.Tally.{isDecided}
-use Rattle.learner.specs.Tables.{Tables, cellAt, cellsFrom}
+use Rattle.tallies.specs.Tables.{Tables, cellAt, cellsFrom}
 use Rattle.delivery.specs.Delivery.{delivered}
 use Rattle.agreement.specs.Agreement.{Prefix, at-its-end, same-value}
 

@@ -20,14 +20,14 @@ use Rattle.terms.specs.Values.{null}
 use Rattle.terms.specs.Verdict.{saysSend}
 use Rattle.terms.proofs.Columns.{below-fresh}
 use Rattle.terms.proofs.Ladder.{both-true, or-cases}
-use Rattle.wire.specs.declared.Message.{Message}
-use Rattle.wire.specs.declared.Message.the-variants.{Vote}
+use Rattle.messages.specs.declared.Message.{Message}
+use Rattle.messages.specs.declared.Message.the-variants.{Vote}
+use Rattle.messages.specs.Table.{requestRow, prepareRow, promiseRow, proposeRow, voteRow, tableRow, keepsTable}
+use Rattle.messages.specs.Message.{messageOf, fieldsOf, whenRequest, whenPrepare, whenPromise, whenPropose, whenVote}
+use Rattle.messages.proofs.Eliminators.{request-elim}
 use Rattle.wire.specs.declared.Reading.{Reading}
 use Rattle.wire.specs.declared.Reading.the-variants.{Read, Refused}
-use Rattle.wire.specs.Table.{requestRow, prepareRow, promiseRow, proposeRow, voteRow, tableRow, keepsTable}
-use Rattle.wire.specs.Message.{messageOf, fieldsOf, whenRequest, whenPrepare, whenPromise, whenPropose, whenVote}
 use Rattle.wire.specs.Packet.{packetLength, fieldsIn, readPacket, packetWith, packetOf}
-use Rattle.wire.proofs.Eliminators.{request-elim}
 use Rattle.wire.proofs.Laws.{packet-bytes}
 use Rattle.player.specs.Step.{afterReading, afterPlacing, ruled, act, step}
 use Rattle.quorum.specs.declared.Settings.{Settings}
@@ -40,7 +40,7 @@ use Rattle.takeover.specs.Takeover as takeovers
 use Rattle.backup.specs.Backup as backups
 use Rattle.tally.specs.Tally as tallies
 use Rattle.tally.specs.Counting.{whenDecided, added, vote}
-use Rattle.learner.specs.Tables as learners
+use Rattle.tallies.specs.Tables as learners
 use Rattle.learner.specs.Learner as learner
 use Rattle.delivery.specs.Delivery.{delivered}
 use Rattle.delivery.specs.Holes as holes
@@ -141,7 +141,7 @@ unfolding ones numberAt if_then_else_ need_or_then_ ownerOf ownedOr0 ownedNot0 r
     primaries.possible primaries.rule primaries.primaryStep primaries.lentStep
     acceptors.possible acceptors.obeying acceptors.rule acceptors.acceptorAllowed acceptors.place acceptors.acceptor acceptors.acceptorStep
     takeovers.isFresh takeovers.phaseFits takeovers.isStarted takeovers.possible takeovers.nextRound takeovers.start takeovers.counting takeovers.chosen takeovers.whenMajority takeovers.promise
-    takeovers.rule backups.ownAllowed backups.sizesAllowed backups.backupAllowed backups.backup backups.backupStep backups.backupStart
+    takeovers.rule takeovers.ownAllowed backups.sizesAllowed backups.backupAllowed backups.backup backups.backupStep backups.backupStart
     tallies.isDecided tallies.isFresh tallies.isHeard tallies.possible whenDecided added vote learners.sizesAllowed learner.rule learner.learner learner.learnerStep
     learner.told learner.answerAt learner.answer learners.cellsFrom learners.allPossible delivered holes.decidedEndFrom holes.isHole holes.firstHoleFrom holes.hole
 computed = record {

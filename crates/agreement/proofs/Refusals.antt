@@ -18,11 +18,11 @@ use Rattle.terms.specs.Ladder.{need_or_then_}
 use Rattle.terms.specs.Places.{placed}
 use Rattle.terms.proofs.Ladder.{need-elim, need-passed, if-elim, and-true}
 use Rattle.terms.proofs.Places.{PlacedBy, placed-index, placed-by}
-use Rattle.wire.specs.declared.Message.{Message}
+use Rattle.messages.specs.declared.Message.{Message}
+use Rattle.messages.proofs.Eliminators.{request-elim, prepare-elim, promise-elim, propose-elim, vote-elim}
 use Rattle.wire.specs.declared.Reading.{Reading}
 use Rattle.wire.specs.declared.Reading.the-variants.{Read, Refused}
 use Rattle.wire.specs.Packet.{readPacket}
-use Rattle.wire.proofs.Eliminators.{request-elim, prepare-elim, promise-elim, propose-elim, vote-elim}
 use Rattle.wire.proofs.Laws.{RefusedBy, reader-refuses}
 use Rattle.player.specs.Step.{Outcome, Ruling, refused, sends, counts, Player, afterReading, afterPlacing, ruled, act, step}
 use Rattle.quorum.specs.declared.Settings.{Settings}
@@ -40,8 +40,8 @@ use Rattle.backup.proofs.Promises as backup
 use Rattle.tally.specs.declared.Tally.{Tally}
 use Rattle.tally.specs.Tally as tallies
 use Rattle.tally.specs.Counting.{whenDecided, added, vote}
+use Rattle.tallies.specs.Tables as learners
 use Rattle.learner.specs.declared.Answer.the-variants as answers
-use Rattle.learner.specs.Tables as learners
 use Rattle.learner.specs.Learner.{rule, learner, learnerStep, told, answerAt, answer}
 use Rattle.learner.proofs.Promises as learner-laws
 use Rattle.delivery.specs.declared.Hole.the-variants as holes
@@ -148,7 +148,7 @@ acceptor-allowed s own t ok known sized =
     (eq-eqb _ _ (sized .of-values))
 
 backup-allowed : (s : Settings) (own : ℕ) (t : backups.Tables) → allowed s ≡ true → 1 ≤ own → own ≤ 3 → backups.Sized (s .instances) t → backups.backupAllowed s own t ≡ true
-unfolding backups.backupAllowed backups.ownAllowed backups.sizesAllowed
+unfolding backups.backupAllowed takeovers.ownAllowed backups.sizesAllowed
 backup-allowed s own t ok least most sized =
     and-true (and-true (and-true ok (le-leb 1 own least)) (le-leb own 3 most))
     (and-true (and-true (and-true (and-true (and-true (eq-eqb _ _ (sized .of-rounds)) (eq-eqb _ _ (sized .of-phases))) (eq-eqb _ _ (sized .of-sets)))

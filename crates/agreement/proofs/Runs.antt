@@ -19,8 +19,9 @@ use Rattle.acceptor.proofs.Promises as acceptor
 use Rattle.backup.specs.Backup.{backupStep, backupStart}
 use Rattle.backup.proofs.Promises as backup
 use Rattle.tally.specs.Tally.{isDecided}
-use Rattle.learner.specs.Tables.{cellAt}
+use Rattle.tallies.specs.Tables.{cellAt}
 use Rattle.learner.specs.Learner.{learnerStep}
+use Rattle.tallies.proofs.Laws as learner-tables
 use Rattle.learner.proofs.Promises as learner
 use Rattle.agreement.specs.Run.{Caller, the-primary, Sent, Boxes, freshBoxes, sending, Call, Later, now, and-then, Run}
 use Rattle.agreement.specs.Run as run
@@ -56,7 +57,7 @@ fresh-holds s = record {
   slots = λ _. freshSlot;
   acceptors = λ a. acceptor.fresh-cells (s .instances);
   backups = λ b. backup.fresh-cells (s .instances);
-  learners = λ l. learner.fresh-cells (s .instances);
+  learners = λ l. learner-tables.fresh-cells (s .instances);
   told = record { known = λ x. nowhere; votes = λ i x. nowhere };
   sound = λ i. fresh-sound (s .acceptors);
   inside = λ i x. nowhere;

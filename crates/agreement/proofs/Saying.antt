@@ -16,7 +16,7 @@ use Rattle.terms.proofs.Places.{placed-index}
 use Rattle.quorum.specs.declared.Settings.{Settings}
 use Rattle.quorum.specs.Settings.{allowed}
 use Rattle.tally.specs.Tally.{isDecided, possible}
-use Rattle.learner.specs.Tables.{Tables, cellAt, sizesAllowed, learnerAllowed, Sized}
+use Rattle.tallies.specs.Tables.{Tables, cellAt, sizesAllowed, learnerAllowed, Sized}
 use Rattle.learner.specs.Learner.{told, answerAt, answer}
 use Rattle.agreement.specs.Run.{nothing, not-yet, says, saidBy}
 

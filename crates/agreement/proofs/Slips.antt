@@ -11,9 +11,9 @@ use Rattle.terms.specs.Votes.{isVoteBy}
 use Rattle.terms.specs.Places.{placed}
 use Rattle.terms.specs.Values.{null}
 use Rattle.terms.specs.Verdict.{saysSend}
-use Rattle.wire.specs.declared.Message.the-variants.{Vote}
-use Rattle.wire.specs.Table.{requestRow, prepareRow, promiseRow, proposeRow, voteRow, tableRow, keepsTable}
-use Rattle.wire.specs.Message.{messageOf, fieldsOf, whenRequest, whenPrepare, whenPromise, whenPropose, whenVote}
+use Rattle.messages.specs.declared.Message.the-variants.{Vote}
+use Rattle.messages.specs.Table.{requestRow, prepareRow, promiseRow, proposeRow, voteRow, tableRow, keepsTable}
+use Rattle.messages.specs.Message.{messageOf, fieldsOf, whenRequest, whenPrepare, whenPromise, whenPropose, whenVote}
 use Rattle.wire.specs.Packet.{fieldsIn, readPacket, packetWith, packetOf}
 use Rattle.player.specs.Step.{afterReading, afterPlacing, ruled, act, step}
 use Rattle.quorum.specs.Settings.{acceptorsAllowed, instancesAllowed, allowed}
@@ -25,7 +25,7 @@ use Rattle.takeover.specs.Takeover as takeovers
 use Rattle.backup.specs.Backup as backups
 use Rattle.tally.specs.Tally as tallies
 use Rattle.tally.specs.Counting.{whenDecided, added, vote}
-use Rattle.learner.specs.Tables as learners
+use Rattle.tallies.specs.Tables as learners
 use Rattle.learner.specs.Learner as learner
 use Rattle.agreement.specs.Run.{put}
 use Rattle.agreement.specs.Examples.{sameBytes, wasSent, played, plays, three, first, v, u}
@@ -39,7 +39,7 @@ unfolding ones numberAt if_then_else_ need_or_then_ ownerOf ownedOr0 ownedNot0 r
     primaries.possible primaries.rule primaries.primaryStep primaries.lentStep
     acceptors.possible acceptors.obeying acceptors.rule acceptors.acceptorAllowed acceptors.place acceptors.acceptor acceptors.acceptorStep
     takeovers.isFresh takeovers.phaseFits takeovers.isStarted takeovers.possible takeovers.nextRound takeovers.start takeovers.counting takeovers.chosen takeovers.whenMajority takeovers.promise
-    takeovers.rule backups.ownAllowed backups.sizesAllowed backups.backupAllowed backups.backup backups.backupStep backups.backupStart
+    takeovers.rule takeovers.ownAllowed backups.sizesAllowed backups.backupAllowed backups.backup backups.backupStep backups.backupStart
     tallies.isDecided tallies.isFresh tallies.isHeard tallies.possible whenDecided added vote learners.sizesAllowed learner.rule learner.learner learner.learnerStep learner.told learner.answerAt learner.answer
 slips = record {
   promise-forgotten = record {

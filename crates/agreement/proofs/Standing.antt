@@ -14,8 +14,8 @@ use Rattle.terms.specs.declared.Value.{Value}
 use Rattle.terms.specs.Rounds.{theInstance}
 use Rattle.terms.specs.Verdict.{saysSend}
 use Rattle.terms.proofs.Places.{PlacedBy}
-use Rattle.wire.specs.declared.Message.{Message}
-use Rattle.wire.specs.declared.Message.the-variants as kind
+use Rattle.messages.specs.declared.Message.{Message}
+use Rattle.messages.specs.declared.Message.the-variants as kind
 use Rattle.wire.specs.declared.Reading.the-variants.{Read}
 use Rattle.wire.specs.Packet.{readPacket, packetOf}
 use Rattle.wire.proofs.Laws.{Writable, RefusedBy, written-reads}
@@ -26,7 +26,7 @@ use Rattle.quorum.specs.declared.Settings.{Settings}
 use Rattle.quorum.specs.Voters.{Mem, older}
 use Rattle.acceptor.specs.Acceptor as acceptors
 use Rattle.backup.specs.Backup as backups
-use Rattle.learner.specs.Tables as learners
+use Rattle.tallies.specs.Tables as learners
 use Rattle.agreement.specs.Run.{Caller, acceptor, Sent, sent, Boxes, put, Handed, VoteSent}
 use Rattle.agreement.specs.Run as run
 use Rattle.agreement.proofs.Basics.{extend, put-elim, put-all, put-same, put-other}

@@ -25,10 +25,11 @@ use Rattle.backup.specs.Backup as backups
 use Rattle.backup.proofs.Promises as backup
 use Rattle.tally.specs.Tally as tallies
 use Rattle.tally.proofs.Laws as tally
-use Rattle.learner.specs.Tables as learners
+use Rattle.tallies.specs.Tables as learners
 use Rattle.learner.specs.Learner.{learner, learnerStep}
+use Rattle.tallies.proofs.Laws as learner-tables
 use Rattle.learner.proofs.Promises as learner-laws
-use Rattle.learner.proofs.Sizes.{learner-sized-stays}
+use Rattle.learner.proofs.Promises.{learner-sized-stays}
 use Rattle.agreement.specs.Run.{Caller, Sent, sent, Boxes, freshBoxes, sending, Handed, Call, Later, now, and-then, Run}
 use Rattle.agreement.specs.Run as run
 use Rattle.agreement.proofs.Basics.{nowhere, extend, put-all}
@@ -71,9 +72,9 @@ fresh-tidy s =
         cells = λ i below. ap (takeovers.possible (s .acceptors) own) (backup.fresh-cells N i below) ∙ takeover.fresh-possible (s .acceptors) own;
       };
       learners = λ _. record {
-        sized = learner-laws.fresh-sized N;
-        fitting = learner-laws.fresh-fitting N;
-        cells = λ i below. ap (tallies.possible (s .acceptors)) (learner-laws.fresh-cells N i below) ∙ tally.fresh-possible (s .acceptors);
+        sized = learner-tables.fresh-sized N;
+        fitting = learner-tables.fresh-fitting N;
+        cells = λ i below. ap (tallies.possible (s .acceptors)) (learner-tables.fresh-cells N i below) ∙ tally.fresh-possible (s .acceptors);
       };
       bytes = λ x. nowhere;
     }

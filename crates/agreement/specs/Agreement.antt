@@ -8,7 +8,7 @@ use mathlib.Core.Logic.{_⊎_}
 use Rattle.terms.specs.declared.Instance.{Instance}
 use Rattle.terms.specs.declared.Round.{Round}
 use Rattle.terms.specs.declared.Value.{Value}
-use Rattle.wire.specs.declared.Message.the-variants.{Vote}
+use Rattle.messages.specs.declared.Message.the-variants.{Vote}
 use Rattle.wire.specs.declared.Reading.the-variants.{Read}
 use Rattle.wire.specs.Packet.{readPacket}
 use Rattle.quorum.specs.declared.Settings.{Settings}
@@ -17,8 +17,8 @@ use Rattle.quorum.specs.Voters.{Mem}
 use Rattle.primary.specs.Primary.{lentStep}
 use Rattle.acceptor.specs.Acceptor.{acceptorStep}
 use Rattle.backup.specs.Backup.{backupStep, backupStart}
+use Rattle.tallies.specs.Tables.{cells}
 use Rattle.learner.specs.declared.Answer.the-variants as answers
-use Rattle.learner.specs.Tables.{cells}
 use Rattle.learner.specs.Learner.{learnerStep, answer}
 use Rattle.delivery.specs.declared.Hole.the-variants as holes
 use Rattle.delivery.specs.Delivery.{delivered, deliver}

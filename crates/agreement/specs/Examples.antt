@@ -13,11 +13,11 @@ use Rattle.terms.specs.declared.Verdict.the-variants.{ToAcceptors, ToLeader, To
 use Rattle.terms.specs.Rounds.{theInstance, theRound, none}
 use Rattle.terms.specs.Values.{theValue, null}
 use Rattle.terms.specs.Verdict.{verdictNumber}
-use Rattle.wire.specs.declared.Message.{Message}
-use Rattle.wire.specs.declared.Message.the-variants.{Request, Prepare, Promise, Propose, Vote}
+use Rattle.messages.specs.declared.Message.{Message}
+use Rattle.messages.specs.declared.Message.the-variants.{Request, Prepare, Promise, Propose, Vote}
+use Rattle.messages.specs.Message.{whenRequest}
 use Rattle.wire.specs.declared.Reading.{Reading}
 use Rattle.wire.specs.declared.Reading.the-variants.{Read, Refused}
-use Rattle.wire.specs.Message.{whenRequest}
 use Rattle.wire.specs.Packet.{packetLength, readPacket, packetOf}
 use Rattle.quorum.specs.declared.Settings.{Settings}
 use Rattle.primary.specs.Primary.{lentStep}

@@ -12,7 +12,7 @@ use Rattle.terms.specs.declared.Round.{Round}
 use Rattle.terms.specs.declared.Value.{Value}
 use Rattle.terms.specs.Ladder.{if_then_else_}
 use Rattle.terms.specs.Verdict.{saysSend}
-use Rattle.wire.specs.declared.Message.the-variants.{Request, Vote}
+use Rattle.messages.specs.declared.Message.the-variants.{Request, Vote}
 use Rattle.wire.specs.declared.Reading.the-variants.{Read}
 use Rattle.wire.specs.Packet.{readPacket, Malformed}
 use Rattle.player.specs.Step.{Outcome}
@@ -21,9 +21,9 @@ use Rattle.quorum.specs.Voters.{Mem, Distinct}
 use Rattle.primary.specs.Primary.{lentStep}
 use Rattle.acceptor.specs.Acceptor as acceptors
 use Rattle.backup.specs.Backup as backups
+use Rattle.tallies.specs.Tables as learners
 use Rattle.learner.specs.declared.Answer.{Answer}
 use Rattle.learner.specs.declared.Answer.the-variants as answers
-use Rattle.learner.specs.Tables as learners
 use Rattle.learner.specs.Learner.{learnerStep, answer}
 
 -- Who makes a call. Acceptors and backups go by their own numbers; a learner has none, and the one here just tells it from the others.

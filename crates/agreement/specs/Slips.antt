@@ -7,9 +7,9 @@ use mathlib.Core.List.{List, [], _∷_}
 use Rattle.terms.specs.declared.Value.{Value}
 use Rattle.terms.specs.Rounds.{theRound, none}
 use Rattle.terms.specs.Values.{null}
-use Rattle.wire.specs.declared.Message.the-variants.{Request, Prepare, Promise, Propose}
+use Rattle.messages.specs.declared.Message.the-variants.{Request, Prepare, Promise, Propose}
 use Rattle.acceptor.specs.Acceptor as acceptors
-use Rattle.learner.specs.Tables as learners
+use Rattle.tallies.specs.Tables as learners
 use Rattle.agreement.specs.Run.{Boxes, freshBoxes, put, Decided, says, said}
 use Rattle.agreement.specs.Examples.{toAcceptors, toLeader, toLearners, hold, Row, primary-gets, acceptor-gets, backup-starts, backup-gets, played, plays, three, first, v, u, split}
 

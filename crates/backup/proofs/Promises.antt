@@ -21,11 +21,11 @@ use Rattle.terms.proofs.Ladder.{if-elim, need-elim}
 use Rattle.terms.proofs.Places.{PlacedBy, placed-index, placed-by}
 use Rattle.terms.proofs.Rounds.{owned-or-0, backup-owned}
 use Rattle.terms.specs.declared.Place.{Place}
-use Rattle.wire.specs.declared.Message.{Message}
-use Rattle.wire.specs.declared.Message.the-variants.{Prepare, Promise, Propose}
-use Rattle.wire.specs.Table.{keepsTable}
-use Rattle.wire.specs.Message.{fieldsOf, whenPromise}
-use Rattle.wire.proofs.Eliminators.{promise-elim}
+use Rattle.messages.specs.declared.Message.{Message}
+use Rattle.messages.specs.declared.Message.the-variants.{Prepare, Promise, Propose}
+use Rattle.messages.specs.Table.{keepsTable}
+use Rattle.messages.specs.Message.{fieldsOf, whenPromise}
+use Rattle.messages.proofs.Eliminators.{promise-elim}
 use Rattle.wire.proofs.Laws.{promise-sender, promise-votes, Writable}
 use Rattle.wire.proofs.Parts.{ValueFits, promise-fits, propose-writable, prepare-writable}
 use Rattle.wire.specs.Packet.{Kept}

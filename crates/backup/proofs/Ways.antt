@@ -20,14 +20,14 @@ use Rattle.terms.specs.Places.{placed, nowhereOf}
 use Rattle.terms.specs.Verdict.{verdictNumber}
 use Rattle.terms.proofs.Ladder.{both-true, need-passed, need-failed}
 use Rattle.terms.proofs.Places.{placed-index}
-use Rattle.wire.specs.declared.Message.{Message}
-use Rattle.wire.specs.declared.Message.the-variants.{Promise}
+use Rattle.messages.specs.declared.Message.{Message}
+use Rattle.messages.specs.declared.Message.the-variants.{Promise}
+use Rattle.messages.specs.Message.{whenPromise}
+use Rattle.messages.proofs.Eliminators.{no-promise}
+use Rattle.messages.proofs.Message.{the-type}
 use Rattle.wire.specs.declared.Reading.{Reading}
 use Rattle.wire.specs.declared.Reading.the-variants.{Read, Refused}
-use Rattle.wire.specs.Message.{whenPromise}
 use Rattle.wire.specs.Packet.{packetLength, readPacket, refusalOf, withMessage}
-use Rattle.wire.proofs.Eliminators.{no-promise}
-use Rattle.wire.proofs.Message.{the-type}
 use Rattle.player.specs.Step.{Outcome, outcome, unchanged, afterPlacing, ruled, act}
 use Rattle.player.proofs.Steps as steps
 use Rattle.quorum.specs.declared.Settings.{Settings}
@@ -37,8 +37,8 @@ use Rattle.quorum.proofs.Laws.{allowed-brings}
 use Rattle.takeover.specs.declared.Cell.{Cell}
 use Rattle.takeover.specs.declared.Ruled.{Ruled}
 use Rattle.takeover.specs.declared.Ruled.the-variants as answers
-use Rattle.takeover.specs.Takeover.{start, promise, rule, rulingOf}
-use Rattle.backup.specs.Backup.{Tables, cellAt, withCell, ownAllowed, sizesAllowed, backupAllowed, backup, backupStep, backupStart, Sized, Within}
+use Rattle.takeover.specs.Takeover.{start, promise, rule, rulingOf, ownAllowed}
+use Rattle.backup.specs.Backup.{Tables, cellAt, withCell, sizesAllowed, backupAllowed, backup, backupStep, backupStart, Sized, Within}
 
 -- ---- settings
 

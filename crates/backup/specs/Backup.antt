@@ -4,7 +4,7 @@ use Prim.Native.Nat.{ℕ, _+_, _*_, _-_, _^_, _<_}
 use mathlib.Core.Path.{_≡_}
 use mathlib.Core.Bool.{Bool, _&&_}
 use mathlib.Core.List.{List}
-use lib.Dec.{eqb, leb}
+use lib.Dec.{eqb}
 use lib.ListN.{length, getD, set, replicate}
 use Rattle.terms.specs.declared.Instance.{Instance}
 use Rattle.terms.specs.declared.Place.the-variants.{Nowhere}
@@ -12,13 +12,12 @@ use Rattle.terms.specs.declared.Value.{Value}
 use Rattle.terms.specs.Ladder.{need_or_then_}
 use Rattle.terms.specs.Places.{placed}
 use Rattle.terms.specs.Columns.{roundAt, withRound, valueAt, withValue, Below}
-use Rattle.wire.specs.Message.{whenPromise}
+use Rattle.messages.specs.Message.{whenPromise}
 use Rattle.wire.specs.Packet.{packetLength}
 use Rattle.player.specs.Step.{Outcome, unchanged, Player, afterPlacing, ruled, step}
 use Rattle.quorum.specs.declared.Settings.{Settings}
-use Rattle.quorum.specs.Settings.{allowed}
 use Rattle.takeover.specs.declared.Cell.{Cell}
-use Rattle.takeover.specs.Takeover.{idle, cell, start, rule}
+use Rattle.takeover.specs.Takeover.{idle, cell, ownAllowed, start, rule}
 
 pub record Tables : Type 0 where
   pub rounds : List ℕ
@@ -44,10 +43,6 @@ abbrev pub withCell : Tables → (index : ℕ) → Cell → Tables
 withCell t index c =
     tables (withRound (t .rounds) index (c .round)) (set (t .phases) index (c .phase)) (set (t .sets) index (c .set))
     (withRound (t .bestVoteRounds) index (c .«best_vote_round»)) (withValue (t .bestValues) index (c .«best_value»)) (withValue (t .ownValues) index (c .«own_value»))
-
--- The own number is 1 to 3.
-unfoldable pub ownAllowed : Settings → (own : ℕ) → Bool
-ownAllowed s own = allowed s && leb 1 own && leb own 3
 
 -- Each table is sized for N.
 unfoldable pub sizesAllowed : (N rounds phases sets bestVoteRounds bestValues ownValues : ℕ) → Bool

@@ -7,7 +7,8 @@ ghost use Rattle.wire.specs.Packet.{packetLength};
 ghost use Rattle.player.specs.Step.{outcome, ruled};
 ghost use Rattle.quorum.specs.Settings.{settings};
 ghost use Rattle.takeover.specs.Takeover.{rulingOf};
-ghost use Rattle.backup.specs.Backup.{tables, cellAt, withCell, ownAllowed, sizesAllowed, backupStep, backupStart, Within};
+ghost use Rattle.backup.specs.Backup.{tables, cellAt, withCell, sizesAllowed, backupStep, backupStart, Within};
+use messages::Message;
 use quorum::Settings;
 use takeover::Cell;
 use takeover::Ruled;
@@ -16,15 +17,7 @@ use terms::Place;
 use terms::Round;
 use terms::Value;
 use terms::Verdict;
-use wire::Message;
 use wire::Reading;
-
-// The own number is 1 to 3, whatever M is.
-fn own_allowed(settings: Settings, own: u32) -> bool
-    ensures { λ r. ⌜ r ≡ ownAllowed settings own ⌝ }
-{
-    quorum::settings_allowed(settings) & (1 <= own) & (own <= 3)
-}
 
 fn sizes_allowed(
     instances: u32,
@@ -173,7 +166,7 @@ pub extern "C" fn myrthakel_backup_start(
         acceptors,
         instances,
     };
-    if !(own_allowed(settings, own)
+    if !(takeover::own_allowed(settings, own)
         & sizes_allowed(
             instances,
             rounds.len(),
@@ -246,7 +239,7 @@ pub extern "C" fn myrthakel_backup_step(
         acceptors,
         instances,
     };
-    if !(own_allowed(settings, own)
+    if !(takeover::own_allowed(settings, own)
         & sizes_allowed(
             instances,
             rounds.len(),

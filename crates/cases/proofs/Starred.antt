@@ -7,8 +7,8 @@ use Rattle.terms.specs.Ladder.{if_then_else_, need_or_then_}
 use Rattle.terms.specs.Rounds.{ownerOf, ownedOr0, ownedNot0, rank, atMost}
 use Rattle.terms.specs.Votes.{isVoteBy}
 use Rattle.terms.specs.Places.{placed}
-use Rattle.wire.specs.Table.{prepareRow, promiseRow, proposeRow, voteRow, tableRow, keepsTable}
-use Rattle.wire.specs.Message.{messageOf, fieldsOf, whenPrepare, whenPromise, whenPropose, whenVote}
+use Rattle.messages.specs.Table.{prepareRow, promiseRow, proposeRow, voteRow, tableRow, keepsTable}
+use Rattle.messages.specs.Message.{messageOf, fieldsOf, whenPrepare, whenPromise, whenPropose, whenVote}
 use Rattle.wire.specs.Packet.{fieldsIn, readPacket, packetWith, packetOf}
 use Rattle.player.specs.Step.{afterReading, afterPlacing, ruled, act, step}
 use Rattle.quorum.specs.Settings.{acceptorsAllowed, instancesAllowed, allowed}
@@ -18,7 +18,7 @@ use Rattle.takeover.specs.Takeover as takeovers
 use Rattle.backup.specs.Backup as backups
 use Rattle.tally.specs.Tally as tallies
 use Rattle.tally.specs.Counting.{whenDecided, added, vote}
-use Rattle.learner.specs.Tables.{sizesAllowed}
+use Rattle.tallies.specs.Tables.{sizesAllowed}
 use Rattle.learner.specs.Learner as learners
 use Rattle.cases.specs.Cases.{cases, All}
 
@@ -27,7 +27,7 @@ unfolding ones numberAt if_then_else_ need_or_then_ ownerOf ownedOr0 ownedNot0 r
     fieldsOf whenPrepare whenPromise whenPropose whenVote fieldsIn readPacket packetWith packetOf placed afterReading afterPlacing ruled act step acceptorsAllowed instancesAllowed
     allowed majority bit hasMember withMember within reaches acceptors.possible acceptors.obeying acceptors.rule acceptors.acceptorAllowed acceptors.place
     acceptors.acceptor acceptors.acceptorStep takeovers.isFresh takeovers.phaseFits takeovers.isStarted takeovers.possible takeovers.nextRound takeovers.start takeovers.counting
-    takeovers.chosen takeovers.whenMajority takeovers.promise takeovers.rule backups.ownAllowed backups.sizesAllowed backups.backupAllowed backups.backup backups.backupStep
+    takeovers.chosen takeovers.whenMajority takeovers.promise takeovers.rule takeovers.ownAllowed backups.sizesAllowed backups.backupAllowed backups.backup backups.backupStep
     backups.backupStart tallies.isDecided tallies.isFresh tallies.isHeard tallies.possible whenDecided added vote sizesAllowed learners.rule learners.learner
     learners.learnerStep learners.told learners.answerAt learners.answer
 starred =

@@ -13,8 +13,8 @@ use Rattle.terms.specs.declared.Verdict.the-variants.{ToAcceptors, ToLeader, To
 use Rattle.terms.specs.Rounds.{theInstance, theRound, none}
 use Rattle.terms.specs.Values.{theValue, null}
 use Rattle.terms.specs.Verdict.{verdictNumber}
-use Rattle.wire.specs.declared.Message.{Message}
-use Rattle.wire.specs.declared.Message.the-variants.{Prepare, Promise, Propose, Vote}
+use Rattle.messages.specs.declared.Message.{Message}
+use Rattle.messages.specs.declared.Message.the-variants.{Prepare, Promise, Propose, Vote}
 use Rattle.wire.specs.Packet.{packetOf}
 use Rattle.player.specs.Step.{Outcome, outcome, unchanged}
 use Rattle.quorum.specs.Settings.{settings}
@@ -22,9 +22,9 @@ use Rattle.acceptor.specs.Acceptor as acceptors
 use Rattle.takeover.specs.Takeover as takeovers
 use Rattle.backup.specs.Backup as backups
 use Rattle.tally.specs.Tally.{tally}
+use Rattle.tallies.specs.Tables as tallies
 use Rattle.learner.specs.declared.Answer.{Answer}
 use Rattle.learner.specs.declared.Answer.the-variants as answers
-use Rattle.learner.specs.Tables as tallies
 use Rattle.learner.specs.Learner as learners
 
 abbrev v : Value

@@ -1,9 +1,9 @@
 // Runs the cases of the paper that are not starred, M = 3, N = 8 unless said, and prints each with its answer. The starred ones are proved, in proofs/.
 use libc::STDOUT_FILENO;
+use messages::Message;
 use terms::Instance;
 use terms::Round;
 use terms::Value;
-use wire::Message;
 
 fn main() {
     print(b"instance 7: ", propose_to_acceptor(7));

@@ -16,7 +16,7 @@ use Rattle.player.specs.Step.{Outcome, unchanged}
 use Rattle.player.proofs.Numbers.{one-of}
 use Rattle.quorum.specs.declared.Settings.{Settings}
 use Rattle.tally.specs.Tally.{isDecided}
-use Rattle.learner.specs.Tables.{Tables, cellAt, cellsFrom, cells}
+use Rattle.tallies.specs.Tables.{Tables, cellAt, cellsFrom, cells}
 use Rattle.delivery.specs.Delivery.{delivered, delivering, deliver, BeforeUndecided}
 
 -- the same from an index on

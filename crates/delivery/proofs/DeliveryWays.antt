@@ -20,8 +20,8 @@ use Rattle.terms.specs.Verdict.{verdictNumber}
 use Rattle.quorum.specs.declared.Settings.{Settings}
 use Rattle.tally.specs.declared.Tally.{Tally}
 use Rattle.tally.specs.Tally.{isDecided}
-use Rattle.learner.specs.Tables.{Tables, cellAt, cells, cellsFrom, learnerAllowed, allPossible}
-use Rattle.learner.proofs.Cells.{cellsLeft, cells-all, cells-next, cells-end}
+use Rattle.tallies.specs.Tables.{Tables, cellAt, cells, cellsFrom, learnerAllowed, allPossible}
+use Rattle.tallies.proofs.Cells.{cellsLeft, cells-all, cells-next, cells-end}
 use Rattle.delivery.specs.Delivery.{delivered, valueBytes, delivery, delivering, deliver}
 
 -- the values of the first cells

@@ -13,8 +13,8 @@ use Rattle.terms.specs.declared.Instance.{Instance}
 use Rattle.quorum.specs.declared.Settings.{Settings}
 use Rattle.tally.specs.declared.Tally.{Tally}
 use Rattle.tally.specs.Tally.{isDecided}
-use Rattle.learner.specs.Tables.{Tables, cellAt, cellsFrom, cells, learnerAllowed, allPossible}
-use Rattle.learner.proofs.Cells.{cellsLeft, cells-all, cells-next, cells-end}
+use Rattle.tallies.specs.Tables.{Tables, cellAt, cellsFrom, cells, learnerAllowed, allPossible}
+use Rattle.tallies.proofs.Cells.{cellsLeft, cells-all, cells-next, cells-end}
 use Rattle.delivery.specs.declared.Hole.{Hole}
 use Rattle.delivery.specs.declared.Hole.the-variants as holes
 use Rattle.delivery.specs.Holes.{decidedEndFrom, decidedEnd, isHole, firstHoleFrom, firstHole, hole, found, finding}

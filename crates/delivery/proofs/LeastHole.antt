@@ -18,7 +18,7 @@ use Rattle.terms.proofs.Ladder.{by-test, both-true, and-true, need-elim, if-tru
 use Rattle.player.specs.Promises.{OneOf, first, later}
 use Rattle.quorum.specs.declared.Settings.{Settings}
 use Rattle.tally.specs.Tally.{isDecided}
-use Rattle.learner.specs.Tables.{Tables, cellAt, cellsFrom, cells}
+use Rattle.tallies.specs.Tables.{Tables, cellAt, cellsFrom, cells}
 use Rattle.delivery.specs.declared.Hole.{Hole}
 use Rattle.delivery.specs.declared.Hole.the-variants as holes
 use Rattle.delivery.specs.Holes.{decidedEndFrom, decidedEnd, isHole, firstHoleFrom, firstHole, hole, finding, HoleAt, Least}

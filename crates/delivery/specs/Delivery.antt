@@ -17,7 +17,7 @@ use Rattle.player.specs.Step.{Outcome, outcome}
 use Rattle.quorum.specs.declared.Settings.{Settings}
 use Rattle.tally.specs.declared.Tally.{Tally}
 use Rattle.tally.specs.Tally.{isDecided}
-use Rattle.learner.specs.Tables.{Tables, cellAt, learnerAllowed, cells, allPossible}
+use Rattle.tallies.specs.Tables.{Tables, cellAt, learnerAllowed, cells, allPossible}
 
 -- The delivered list holds the values of instances 0, 1, .. before the first undecided.
 unfoldable pub delivered : (M : ℕ) → List Tally → List Value

@@ -12,7 +12,7 @@ use Rattle.terms.specs.Verdict.{verdictNumber}
 use Rattle.quorum.specs.declared.Settings.{Settings}
 use Rattle.tally.specs.declared.Tally.{Tally}
 use Rattle.tally.specs.Tally.{isDecided}
-use Rattle.learner.specs.Tables.{Tables, cellAt, learnerAllowed, cells, allPossible}
+use Rattle.tallies.specs.Tables.{Tables, cellAt, learnerAllowed, cells, allPossible}
 use Rattle.delivery.specs.declared.Hole.{Hole}
 use Rattle.delivery.specs.declared.Hole.the-variants as holes
 

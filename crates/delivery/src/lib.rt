@@ -5,7 +5,7 @@ ghost use lib.ListN.{length};
 ghost use Rattle.terms.specs.Verdict.{verdictNumber};
 ghost use Rattle.terms.specs.declared.Verdict.the-variants.{Done};
 ghost use Rattle.quorum.specs.Settings.{settings};
-ghost use Rattle.learner.specs.Tables.{tables, cellsFrom};
+ghost use Rattle.tallies.specs.Tables.{tables, cellsFrom};
 ghost use Rattle.delivery.specs.Delivery.{delivered, delivery, delivering, deliver};
 ghost use Rattle.delivery.specs.Holes.{decidedEnd, isHole, firstHole, hole, found, finding};
 use quorum::Settings;
@@ -36,7 +36,7 @@ fn write_delivered(
 {
     let mut count = 0;
     while count < instances {
-        let cell = learner::cell_at(rounds, sets, values, count as usize);
+        let cell = tallies::cell_at(rounds, sets, values, count as usize);
         let value = cell.value;
         if !tally::is_decided(acceptors, cell) {
             return count;
@@ -66,13 +66,13 @@ pub extern "C" fn myrthakel_learner_deliver(
         acceptors,
         instances,
     };
-    if !learner::sizes_allowed(settings, rounds.len(), sets.len(), values.len()) {
+    if !tallies::sizes_allowed(settings, rounds.len(), sets.len(), values.len()) {
         return 7;
     }
     if buffer.len() != 16 * (instances as usize) {
         return 1;
     }
-    if !learner::all_possible(acceptors, instances, rounds, sets, values) {
+    if !tallies::all_possible(acceptors, instances, rounds, sets, values) {
         return 17;
     }
     *count = write_delivered(acceptors, instances, rounds, sets, values, buffer);
@@ -87,7 +87,7 @@ fn decided_end(acceptors: u32, instances: u32, rounds: &[u32], sets: &[u8], valu
 {
     let mut end = 0;
     for number in 0..instances {
-        let cell = learner::cell_at(rounds, sets, values, number as usize);
+        let cell = tallies::cell_at(rounds, sets, values, number as usize);
         if tally::is_decided(acceptors, cell) {
             end = number + 1;
         }
@@ -110,7 +110,7 @@ fn first_hole(acceptors: u32, instances: u32, rounds: &[u32], sets: &[u8], value
         if instances <= number {
             break Hole::Nowhere;
         }
-        let cell = learner::cell_at(rounds, sets, values, number as usize);
+        let cell = tallies::cell_at(rounds, sets, values, number as usize);
         if is_hole(acceptors, end, number, cell) {
             break Hole::At(Instance(number));
         }
@@ -121,10 +121,10 @@ fn first_hole(acceptors: u32, instances: u32, rounds: &[u32], sets: &[u8], value
 pub fn find_hole(settings: Settings, rounds: &[u32], sets: &[u8], values: &[u64]) -> Hole
     ensures { λ r. ⌜ r ≡ hole settings (tables (now (rounds .entry)) (now (sets .entry)) (now (values .entry))) ⌝ }
 {
-    if !learner::sizes_allowed(settings, rounds.len(), sets.len(), values.len()) {
+    if !tallies::sizes_allowed(settings, rounds.len(), sets.len(), values.len()) {
         return Hole::Refused(7);
     }
-    if !learner::all_possible(settings.acceptors, settings.instances, rounds, sets, values) {
+    if !tallies::all_possible(settings.acceptors, settings.instances, rounds, sets, values) {
         return Hole::Refused(17);
     }
     first_hole(settings.acceptors, settings.instances, rounds, sets, values)

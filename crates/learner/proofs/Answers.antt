@@ -15,9 +15,9 @@ use Rattle.terms.proofs.Places.{PlacedBy, placed-by}
 use Rattle.player.specs.Promises.{OneOf}
 use Rattle.player.proofs.Numbers.{one-of}
 use Rattle.quorum.specs.declared.Settings.{Settings}
+use Rattle.tallies.specs.Tables.{Tables}
 use Rattle.learner.specs.declared.Answer.{Answer}
 use Rattle.learner.specs.declared.Answer.the-variants as answers
-use Rattle.learner.specs.Tables.{Tables}
 use Rattle.learner.specs.Learner.{told, answerAt, answer, saying}
 
 -- Answer for an instance: 7, 8, 17; its value, or "not yet".

@@ -1,6 +1,3 @@
-mod Columns
-pub mod Cells
 pub mod Ways
 pub mod Promises
 pub mod Answers
-pub mod Sizes

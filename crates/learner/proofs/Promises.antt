@@ -1,28 +1,23 @@
 -- The promises of every call, for the learner's step: it acts or refuses by its numbers, a refusal keeps all, no cell but the instance's changes, a possible
 -- cell stays possible, and nothing is sent. They are the theorems of any player, from the laws of a tally. A decided cell never moves again.
 -- Assumes nothing.
-use Prim.Native.Nat.{ℕ, _+_, _*_, _^_, _<_}
+use Prim.Native.Nat.{ℕ, _<_}
 use mathlib.Core.Path.{_≡_, refl, sym, ap, _∙_, subst}
 use mathlib.Core.Bool.{true, false, false≢true}
 use mathlib.Core.List.{List, [], _∷_}
 use native.Mathlib.Decide.{ℕ-discrete}
 use native.Mathlib.Omega.{arith}
-use lib.Dec.{lit<}
-use lib.ListN.{length-replicate}
 use Rattle.terms.specs.declared.Place.the-variants.{At, Nowhere}
-use Rattle.terms.specs.declared.Round.{Round}
 use Rattle.terms.specs.declared.Verdict.the-variants.{Hold, Decided}
-use Rattle.terms.specs.Rounds.{theRound}
 use Rattle.terms.specs.Places.{placed}
 use Rattle.terms.specs.Verdict.{verdictNumber}
-use Rattle.terms.proofs.Columns.{number-there, number-apart, round-there, round-apart, value-there, value-apart, fresh-number, fresh-value, below-set, below-value, below-fresh}
 use Rattle.terms.proofs.Ladder.{if-elim}
 use Rattle.terms.proofs.Places.{PlacedBy, placed-index, placed-by}
-use Rattle.wire.specs.declared.Message.{Message}
-use Rattle.wire.specs.declared.Message.the-variants.{Vote}
-use Rattle.wire.specs.Message.{fieldsOf, whenVote}
-use Rattle.wire.specs.Table.{keepsTable}
-use Rattle.wire.proofs.Eliminators.{vote-elim}
+use Rattle.messages.specs.declared.Message.{Message}
+use Rattle.messages.specs.declared.Message.the-variants.{Vote}
+use Rattle.messages.specs.Message.{fieldsOf, whenVote}
+use Rattle.messages.specs.Table.{keepsTable}
+use Rattle.messages.proofs.Eliminators.{vote-elim}
 use Rattle.wire.proofs.Laws.{vote-sender, vote-owned, Writable}
 use Rattle.wire.proofs.Parts.{vote-fits, vote-value-fits}
 use Rattle.player.specs.Promises.{OneOf, first, later, packetRefusals, NumbersAre, RefusalKeepsAll, UsesCell, OtherCellsStay, PossibleStays, FittingStays}
@@ -32,52 +27,12 @@ use Rattle.player.proofs.Promises.{RuledBy, NextCell, next-cell, refusal-keeps-
 use Rattle.player.proofs.Steps.{step-elim}
 use Rattle.quorum.specs.declared.Settings.{Settings}
 use Rattle.tally.specs.declared.Tally.{Tally}
-use Rattle.tally.specs.Tally.{freshTally, isDecided, possible}
+use Rattle.tally.specs.Tally.{isDecided, possible}
 use Rattle.tally.specs.Counting.{whenDecided, vote}
-use Rattle.tally.proofs.Laws.{same-tally, counting-elim, counted-possible, FitsTally, counted-fits}
-use Rattle.learner.specs.Tables.{Tables, freshTables, cellAt, withCell, Sized, Within, Fitting}
+use Rattle.tally.proofs.Laws.{counting-elim, counted-possible, FitsTally, counted-fits}
+use Rattle.tallies.specs.Tables.{Tables, cellAt, withCell, Sized, Fitting}
+use Rattle.tallies.proofs.Laws.{allowed-tables, index-within, cell-there, cell-apart, fitting-at, fitting-with, sized-with}
 use Rattle.learner.specs.Learner.{rule, learner, learnerStep}
-use Rattle.learner.proofs.Ways.{allowed-tables, index-within}
-
--- ---- cells and tables
-
-pub cell-there : (t : Tables) (index : ℕ) (c : Tally) → Within t index → cellAt (withCell t index c) index ≡ c
-cell-there t index c w =
-    same-tally (round-there (t .rounds) index (c .round) (w .in-rounds)) (number-there (t .sets) index (c .set) (w .in-sets))
-    (value-there (t .values) index (c .value) (w .in-values))
-
-pub cell-apart : (t : Tables) (index other : ℕ) (c : Tally) → (index ≡ other → ⊥) → cellAt (withCell t index c) other ≡ cellAt t other
-cell-apart t index other c differ =
-    same-tally (round-apart (t .rounds) index other (c .round) differ) (number-apart (t .sets) index other (c .set) differ)
-    (value-apart (t .values) index (c .value) other differ)
-
-pub fresh-cells : (N index : ℕ) → index < N → cellAt (freshTables N) index ≡ freshTally
-fresh-cells N index inside =
-    same-tally (ap theRound (fresh-number N 4294967295 index inside)) (fresh-number N 0 index inside) (fresh-value N index inside)
-
-pub fresh-sized : (N : ℕ) → Sized N (freshTables N)
-fresh-sized N = record { of-rounds = length-replicate N 4294967295; of-sets = length-replicate N 0; of-values = length-replicate (2 * N) 0 }
-
-pub fresh-fitting : (N : ℕ) → Fitting (freshTables N)
-fresh-fitting N = record {
-  fitting-rounds = below-fresh (2 ^ 32) N 4294967295 (lit< tt);
-  fitting-sets = below-fresh (2 ^ 8) N 0 (lit< tt);
-  fitting-values = below-fresh (2 ^ 64) (2 * N) 0 (lit< tt);
-}
-
-pub fitting-at : (t : Tables) (index : ℕ) → Fitting t → FitsTally (cellAt t index)
-fitting-at t index fits = record {
-  round-fits = fits .fitting-rounds index;
-  set-fits = fits .fitting-sets index;
-  value-fits = record { high-fits = fits .fitting-values (2 * index); low-fits = fits .fitting-values (2 * index + 1) };
-}
-
-pub fitting-with : (t : Tables) (index : ℕ) (c : Tally) → Fitting t → FitsTally c → Fitting (withCell t index c)
-fitting-with t index c fits cell-fits = record {
-  fitting-rounds = below-set (2 ^ 32) (t .rounds) index (c .round .0) (fits .fitting-rounds) (cell-fits .round-fits);
-  fitting-sets = below-set (2 ^ 8) (t .sets) index (c .set) (fits .fitting-sets) (cell-fits .set-fits);
-  fitting-values = below-value (t .values) index (c .value) (fits .fitting-values) (cell-fits .value-fits .high-fits) (cell-fits .value-fits .low-fits);
-}
 
 -- a place that a vote has is an instance's below N
 pub placed-below : (N : ℕ) (m : Message) (index : ℕ) → whenVote (λ sender instance round value. placed N instance) (Nowhere 6) m ≡ At index → index < N
@@ -187,3 +142,9 @@ module _ (s : Settings) where
       next-cell FitsTally (λ c. Fitting (withCell t index c)) (λ c cell-fits. fitting-with t index c fits cell-fits) (vote (s .acceptors) (cellAt t index) a i r v)
       (counted-fits (s .acceptors) (cellAt t index) a i r v (fitting-at t index fits) (vote-sender a i r v (w .kept)) (vote-fits a i r v w .round-fits) (vote-value-fits a i r v w)))
       tt)
+
+  -- the tables keep their sizes
+  pub learner-sized-stays : (packet : List ℕ) (t : Tables) {n : ℕ} → Sized n t → Sized n (learnerStep s packet t .tables)
+  unfolding learnerStep learner
+  learner-sized-stays packet t {n} =
+      tables-hold (learner s) (Sized n) packet t (λ m i _ _ _ before. any-cell (λ c. Sized n (withCell t i c)) (λ c. sized-with t i c before) (rule (s .acceptors) (cellAt t i) m))

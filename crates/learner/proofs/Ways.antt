@@ -1,15 +1,12 @@
 -- Each way out of the learner's step and of its answer is what the definitions say, by the tests that led there.
 -- Assumes nothing.
-use Prim.Native.Nat.{ℕ, _*_, _<_}
+use Prim.Native.Nat.{ℕ}
 use mathlib.Core.Path.{_≡_, refl, ap, _∙_}
-use mathlib.Core.Bool.{Bool, true, false, not, _&&_}
+use mathlib.Core.Bool.{Bool, true, false, not}
 use mathlib.Core.List.{List, [], _∷_}
-use native.Mathlib.Omega.{arith}
 use denote.Enum.Declared.{tagOf}
 use types.Run.{OneOf}
-use lib.Dec.{eqb}
-use lib.ListN.{length}
-use borrow.Author.Tests.{not-true, not-false, eqb-true}
+use borrow.Author.Tests.{not-true, not-false}
 use Rattle.terms.specs.declared.Instance.{Instance}
 use Rattle.terms.specs.declared.Place.{Place}
 use Rattle.terms.specs.declared.Place.the-variants.{At, Nowhere}
@@ -19,53 +16,26 @@ use Rattle.terms.specs.declared.Verdict.the-variants.{Hold, Decided, Done, NotY
 use Rattle.terms.specs.Places.{placed, nowhereOf}
 use Rattle.terms.specs.Verdict.{verdictNumber}
 use Rattle.terms.specs.Ladder.{if_then_else_, need_or_then_}
-use Rattle.terms.proofs.Ladder.{both-true}
-use Rattle.wire.specs.declared.Message.{Message}
-use Rattle.wire.specs.declared.Message.the-variants.{Vote}
+use Rattle.messages.specs.declared.Message.{Message}
+use Rattle.messages.specs.declared.Message.the-variants.{Vote}
+use Rattle.messages.specs.Message.{whenVote}
+use Rattle.messages.proofs.Eliminators.{no-vote}
+use Rattle.messages.proofs.Message.{the-type}
 use Rattle.wire.specs.declared.Reading.{Reading}
 use Rattle.wire.specs.declared.Reading.the-variants.{Read, Refused}
-use Rattle.wire.specs.Message.{whenVote}
 use Rattle.wire.specs.Packet.{readPacket, refusalOf}
-use Rattle.wire.proofs.Eliminators.{no-vote}
-use Rattle.wire.proofs.Message.{the-type}
 use Rattle.player.specs.Step.{Outcome, outcome, unchanged, ruled, act}
 use Rattle.player.proofs.Steps as steps
 use Rattle.quorum.specs.declared.Settings.{Settings}
-use Rattle.quorum.specs.Settings.{allowed}
-use Rattle.quorum.proofs.Laws as quorums
-use Rattle.quorum.proofs.Laws.{allowed-brings}
 use Rattle.tally.specs.declared.Tally.{Tally}
 use Rattle.tally.specs.declared.Counted.{Counted}
 use Rattle.tally.specs.declared.Counted.the-variants as counted
 use Rattle.tally.specs.Counting.{vote, rulingOf}
 use Rattle.tally.specs.Tally.{isDecided, possible}
+use Rattle.tallies.specs.Tables.{Tables, cellAt, withCell, learnerAllowed}
 use Rattle.learner.specs.declared.Answer.{Answer}
 use Rattle.learner.specs.declared.Answer.the-variants as answers
-use Rattle.learner.specs.Tables.{Tables, cellAt, withCell, sizesAllowed, learnerAllowed, Sized, Within}
 use Rattle.learner.specs.Learner.{rule, learner, learnerStep, told, answerAt, answer, said, saying}
-
--- ---- settings
-
--- what allowed settings bring
-pub record Allowed (s : Settings) (t : Tables) : Type 0 where
-  pub few : quorums.Allowed s
-  pub sized : Sized (s .instances) t
-
-pub allowed-tables : (s : Settings) (t : Tables) → learnerAllowed s t ≡ true → Allowed s t
-unfolding sizesAllowed
-allowed-tables s t e =
-    let n = s .instances in
-    let a = both-true (allowed s && eqb (length (t .rounds)) n && eqb (length (t .sets)) n) (eqb (length (t .values)) (2 * n)) e in
-    let b = both-true (allowed s && eqb (length (t .rounds)) n) (eqb (length (t .sets)) n) (a .0) in
-    let c = both-true (allowed s) (eqb (length (t .rounds)) n) (b .0) in
-    record {
-      few = allowed-brings s (c .0);
-      sized = record { of-rounds = eqb-true _ _ (c .1); of-sets = eqb-true _ _ (b .1); of-values = eqb-true _ _ (a .1) };
-    }
-
-pub index-within : {n : ℕ} (t : Tables) (index : ℕ) → Sized n t → index < n → Within t index
-index-within t index sized low =
-    record { in-rounds = omega (arith, sized .of-rounds); in-sets = omega (arith, sized .of-sets); in-values = omega (arith, sized .of-values) }
 
 -- ---- what a vote came to, stored
 

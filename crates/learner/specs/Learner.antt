@@ -10,16 +10,16 @@ use Rattle.terms.specs.declared.Verdict.the-variants.{Done, NotYet}
 use Rattle.terms.specs.Ladder.{if_then_else_, need_or_then_}
 use Rattle.terms.specs.Places.{placed}
 use Rattle.terms.specs.Verdict.{verdictNumber}
-use Rattle.wire.specs.declared.Message.{Message}
-use Rattle.wire.specs.Message.{whenVote}
+use Rattle.messages.specs.declared.Message.{Message}
+use Rattle.messages.specs.Message.{whenVote}
 use Rattle.player.specs.Step.{Outcome, Ruling, refused, Player, step}
 use Rattle.quorum.specs.declared.Settings.{Settings}
 use Rattle.tally.specs.declared.Tally.{Tally}
 use Rattle.tally.specs.Tally.{isDecided, possible}
 use Rattle.tally.specs.Counting.{vote}
+use Rattle.tallies.specs.Tables.{Tables, cellAt, withCell, learnerAllowed}
 use Rattle.learner.specs.declared.Answer.{Answer}
 use Rattle.learner.specs.declared.Answer.the-variants as answers
-use Rattle.learner.specs.Tables.{Tables, cellAt, withCell, learnerAllowed}
 
 unfoldable pub rule : (M : ℕ) → Tally → Message → Ruling Tally
 rule M t = whenVote (vote M t) (refused 6)

@@ -11,10 +11,10 @@ use Rattle.terms.specs.declared.Verdict.{Verdict}
 use Rattle.terms.specs.declared.Verdict.the-variants.{ToAcceptors, ToLeader, ToLearners, Hold, Decided, Done, NotYet, NoHole}
 use Rattle.terms.specs.Verdict.{verdictNumber, isVerdict, saysSend}
 use Rattle.terms.proofs.Places.{PlacedBy}
-use Rattle.wire.specs.declared.Message.{Message}
+use Rattle.messages.specs.declared.Message.{Message}
+use Rattle.messages.specs.Table.{keepsTable}
+use Rattle.messages.specs.Message.{fieldsOf}
 use Rattle.wire.specs.declared.Reading.the-variants.{Read, Refused}
-use Rattle.wire.specs.Table.{keepsTable}
-use Rattle.wire.specs.Message.{fieldsOf}
 use Rattle.wire.specs.Packet.{Kept, readPacket, packetOf}
 use Rattle.wire.proofs.Laws.{Writable, RefusedBy, read-message, read-writable, written-reads}
 use Rattle.wire.proofs.RoundTrip.{read-kept}

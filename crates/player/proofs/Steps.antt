@@ -12,7 +12,7 @@ use Rattle.terms.specs.declared.Verdict.{Verdict}
 use Rattle.terms.specs.Verdict.{verdictNumber}
 use Rattle.terms.specs.Places.{nowhereOf}
 use Rattle.terms.proofs.Ladder.{need-elim, need-passed, need-failed}
-use Rattle.wire.specs.declared.Message.{Message}
+use Rattle.messages.specs.declared.Message.{Message}
 use Rattle.wire.specs.declared.Reading.{Reading}
 use Rattle.wire.specs.declared.Reading.the-variants.{Read, Refused}
 use Rattle.wire.specs.Packet.{packetLength, readPacket, refusalOf, withMessage}

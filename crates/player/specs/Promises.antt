@@ -7,7 +7,7 @@ use mathlib.Core.List.{List, _∷_}
 use Rattle.numbers.specs.BigEndian.{Bytes}
 use Rattle.terms.specs.declared.Place.the-variants.{At}
 use Rattle.terms.specs.Verdict.{isVerdict, saysSend}
-use Rattle.wire.specs.declared.Message.{Message}
+use Rattle.messages.specs.declared.Message.{Message}
 use Rattle.wire.specs.declared.Reading.the-variants.{Read}
 use Rattle.wire.specs.Packet.{readPacket, Kept}
 use Rattle.player.specs.Step.{Outcome, outcome, unchanged, Player}

@@ -9,7 +9,7 @@ use Rattle.terms.specs.declared.Place.the-variants.{At, Nowhere}
 use Rattle.terms.specs.declared.Verdict.{Verdict}
 use Rattle.terms.specs.Ladder.{need_or_then_}
 use Rattle.terms.specs.Verdict.{verdictNumber}
-use Rattle.wire.specs.declared.Message.{Message}
+use Rattle.messages.specs.declared.Message.{Message}
 use Rattle.wire.specs.declared.Reading.{Reading}
 use Rattle.wire.specs.declared.Reading.the-variants.{Read, Refused}
 use Rattle.wire.specs.Packet.{readPacket, packetOf}

@@ -14,9 +14,9 @@ use Rattle.terms.specs.declared.Verdict.the-variants.{ToAcceptors}
 use Rattle.terms.specs.Ladder.{need_or_then_}
 use Rattle.terms.specs.Rounds.{theInstance, theRound}
 use Rattle.terms.specs.Verdict.{verdictNumber}
-use Rattle.wire.specs.declared.Message.the-variants.{Request, Propose}
+use Rattle.messages.specs.declared.Message.the-variants.{Request, Propose}
+use Rattle.messages.specs.Message.{whenRequest}
 use Rattle.wire.specs.declared.Reading.the-variants.{Read}
-use Rattle.wire.specs.Message.{whenRequest}
 use Rattle.wire.specs.Packet.{readPacket, packetOf}
 use Rattle.player.specs.Step.{Outcome, outcome, unchanged, Ruling, refused, sends, ruled, act}
 use Rattle.player.proofs.Steps as steps

@@ -15,11 +15,11 @@ use Rattle.terms.specs.Verdict.{verdictNumber, isVerdict, saysSend}
 use Rattle.terms.proofs.Ladder.{need-elim}
 use Rattle.terms.proofs.Rounds.{zero-owned}
 use Rattle.terms.proofs.Places.{PlacedBy}
-use Rattle.wire.specs.declared.Message.{Message}
-use Rattle.wire.specs.declared.Message.the-variants.{Request, Propose}
+use Rattle.messages.specs.declared.Message.{Message}
+use Rattle.messages.specs.declared.Message.the-variants.{Request, Propose}
+use Rattle.messages.proofs.Eliminators.{request-elim}
 use Rattle.wire.specs.declared.Reading.the-variants.{Read}
 use Rattle.wire.specs.Packet.{readPacket, Kept}
-use Rattle.wire.proofs.Eliminators.{request-elim}
 use Rattle.wire.proofs.Laws.{Writable}
 use Rattle.wire.proofs.Parts.{propose-writable, request-value-fits}
 use Rattle.player.specs.Promises.{OneOf, first, packetRefusals, ActsOrRefuses, refuses, acts, NumbersAre, RefusalKeepsAll, PossibleStays, SendsKept, FittingStays}

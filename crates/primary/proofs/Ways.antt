@@ -12,14 +12,14 @@ use Rattle.terms.specs.declared.Value.{Value}
 use Rattle.terms.specs.declared.Verdict.the-variants.{ToAcceptors}
 use Rattle.terms.specs.Rounds.{theRound}
 use Rattle.terms.specs.Verdict.{verdictNumber}
-use Rattle.wire.specs.declared.Message.{Message}
-use Rattle.wire.specs.declared.Message.the-variants.{Request, Propose}
+use Rattle.messages.specs.declared.Message.{Message}
+use Rattle.messages.specs.declared.Message.the-variants.{Request, Propose}
+use Rattle.messages.proofs.Eliminators.{no-request}
+use Rattle.messages.proofs.Message.{the-type}
 use Rattle.wire.specs.declared.Reading.{Reading}
 use Rattle.wire.specs.declared.Reading.the-variants.{Read, Refused}
 use Rattle.wire.specs.Packet.{readPacket, refusalOf, withMessage}
-use Rattle.wire.proofs.Eliminators.{no-request}
 use Rattle.wire.proofs.Laws.{read-length, put-over}
-use Rattle.wire.proofs.Message.{the-type}
 use Rattle.player.specs.Step.{Outcome, outcome, unchanged, Ruling, refused, ruled, act}
 use Rattle.player.proofs.Steps as steps
 use Rattle.quorum.specs.declared.Settings.{Settings}

@@ -9,9 +9,9 @@ use Rattle.terms.specs.declared.Place.the-variants.{At, Nowhere}
 use Rattle.terms.specs.declared.Verdict.the-variants.{ToAcceptors}
 use Rattle.terms.specs.Ladder.{need_or_then_}
 use Rattle.terms.specs.Rounds.{theInstance, theRound}
-use Rattle.wire.specs.declared.Message.{Message}
-use Rattle.wire.specs.declared.Message.the-variants.{Propose}
-use Rattle.wire.specs.Message.{whenRequest}
+use Rattle.messages.specs.declared.Message.{Message}
+use Rattle.messages.specs.declared.Message.the-variants.{Propose}
+use Rattle.messages.specs.Message.{whenRequest}
 use Rattle.player.specs.Step.{Outcome, outcome, unchanged, Ruling, refused, sends, Player, step}
 use Rattle.quorum.specs.declared.Settings.{Settings}
 use Rattle.quorum.specs.Settings.{allowed}

@@ -3,11 +3,11 @@ ghost use mathlib.Core.Path.{_≡_};
 ghost use Rattle.player.specs.Step.{outcome};
 ghost use Rattle.quorum.specs.Settings.{settings};
 ghost use Rattle.primary.specs.Primary.{freshPrimary, primaryStep, lentStep};
+use messages::Message;
 use quorum::Settings;
 use terms::Instance;
 use terms::Round;
 use terms::Verdict;
-use wire::Message;
 use wire::Reading;
 
 // The primary's record, kept by its caller.

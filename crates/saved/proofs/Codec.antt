@@ -12,7 +12,7 @@ use Rattle.numbers.proofs.Bytes.{stored-within, sets-append}
 use Rattle.numbers.proofs.Fronts.{front-next, front-whole}
 use Rattle.quorum.specs.declared.Settings.{Settings}
 use Rattle.tally.specs.declared.Tally.{Tally}
-use Rattle.learner.specs.Tables.{Tables, cellAt, cellsFrom}
+use Rattle.tallies.specs.Tables.{Tables, cellAt, cellsFrom}
 use Rattle.saved.specs.Saved.{mark, version, headerLength, tallyLength, savedLength, header, tallyBytes, talliesBytes}
 use Rattle.saved.proofs.Lists.{length-cells, cells-more}
 

@@ -16,8 +16,8 @@ use Rattle.terms.specs.Rounds.{theRound}
 use Rattle.terms.specs.Values.{theValue}
 use Rattle.tally.specs.declared.Tally.{Tally}
 use Rattle.tally.specs.Tally.{tally}
-use Rattle.learner.specs.Tables.{Tables, tables, cellAt, withCell, cellsFrom, Sized}
-use Rattle.learner.proofs.Cells.{cellsLeft, cells-all}
+use Rattle.tallies.specs.Tables.{Tables, tables, cellAt, withCell, cellsFrom, Sized}
+use Rattle.tallies.proofs.Cells.{cellsLeft, cells-all}
 use Rattle.saved.specs.Saved.{savedLength, tallyIn, savedFrom, roundsOf, setsOf, valuesOf, tablesOf}
 
 -- ---- a list of what stands at an index and behind it: its length, and its last element

@@ -20,7 +20,7 @@ use Rattle.player.specs.Promises.{OneOf, first, NumbersAre, RefusalKeepsAll, Fi
 use Rattle.player.specs.Step.{Outcome, outcome, unchanged}
 use Rattle.player.proofs.Numbers.{one-of}
 use Rattle.quorum.specs.declared.Settings.{Settings}
-use Rattle.learner.specs.Tables.{Tables, cells, cellsFrom, allPossible, learnerAllowed, Sized, Fitting}
+use Rattle.tallies.specs.Tables.{Tables, cells, cellsFrom, allPossible, learnerAllowed, Sized, Fitting}
 use Rattle.saved.specs.Saved.{version, headerLength, savedLength, header, marked, versionIn, sameSettings, tallyIn, talliesBytes, savedTable, savedFrom, savedCells, roundsOf, setsOf, valuesOf, tablesOf, save, readSaved}
 use Rattle.saved.proofs.Codec.{length-header, length-tallies}
 use Rattle.saved.proofs.Lists.{length-cells, length-saved-cells, length-rounds-of, length-sets-of, length-values-of, cells-of-tables}

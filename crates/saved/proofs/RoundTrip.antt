@@ -23,8 +23,8 @@ use Rattle.quorum.specs.declared.Settings.{Settings}
 use Rattle.quorum.specs.Quorum.{Member}
 use Rattle.tally.specs.declared.Tally.{Tally}
 use Rattle.tally.specs.Tally.{tally, freshTally}
-use Rattle.learner.specs.Tables.{Tables, cellAt, cells, cellsFrom, allPossible, sizesAllowed, learnerAllowed, Sized, Fitting}
-use Rattle.learner.proofs.Ways.{allowed-tables}
+use Rattle.tallies.specs.Tables.{Tables, cellAt, cells, cellsFrom, allPossible, sizesAllowed, learnerAllowed, Sized, Fitting}
+use Rattle.tallies.proofs.Laws.{allowed-tables}
 use Rattle.saved.specs.Saved.{mark, version, headerLength, tallyLength, savedLength, header, marked, versionIn, sameSettings, tallyBytes, tallyIn, talliesBytes, savedTable, savedFrom, savedCells, tablesOf, save, readSaved}
 use Rattle.saved.proofs.Codec.{length-header, length-tally}
 use Rattle.saved.proofs.Lists.{tables-of-cells, saved-cell}

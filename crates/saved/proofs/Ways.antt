@@ -14,8 +14,8 @@ use Rattle.terms.specs.Ladder.{need_or_then_}
 use Rattle.terms.specs.Verdict.{verdictNumber}
 use Rattle.player.specs.Step.{outcome, unchanged}
 use Rattle.quorum.specs.declared.Settings.{Settings}
-use Rattle.learner.specs.Tables.{Tables, cells, allPossible, learnerAllowed}
-use Rattle.learner.proofs.Ways.{Allowed, allowed-tables}
+use Rattle.tallies.specs.Tables.{Tables, cells, allPossible, learnerAllowed}
+use Rattle.tallies.proofs.Laws.{Allowed, allowed-tables}
 use Rattle.saved.specs.Saved.{version, headerLength, savedLength, header, marked, versionIn, sameSettings, talliesBytes, savedTable, savedCells, tablesOf, save, readSaved}
 use Rattle.saved.proofs.Codec.{length-header}
 

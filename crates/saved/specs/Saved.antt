@@ -16,7 +16,7 @@ use Rattle.player.specs.Step.{Outcome, outcome, unchanged}
 use Rattle.quorum.specs.declared.Settings.{Settings}
 use Rattle.tally.specs.declared.Tally.{Tally}
 use Rattle.tally.specs.Tally.{tally}
-use Rattle.learner.specs.Tables.{Tables, tables, cells, allPossible, learnerAllowed}
+use Rattle.tallies.specs.Tables.{Tables, tables, cells, allPossible, learnerAllowed}
 
 -- "RDT"
 abbrev pub mark : List ℕ

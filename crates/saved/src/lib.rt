@@ -7,7 +7,7 @@ ghost use lib.Seq.{sets};
 ghost use Rattle.numbers.specs.Fronts.{withFront};
 ghost use Rattle.player.specs.Step.{outcome};
 ghost use Rattle.quorum.specs.Settings.{settings};
-ghost use Rattle.learner.specs.Tables.{tables, cellsFrom, allPossible, Sized};
+ghost use Rattle.tallies.specs.Tables.{tables, cellsFrom, allPossible, Sized};
 ghost use Rattle.saved.specs.Saved.{headerLength, tallyLength, savedLength, header, marked, sameSettings, tallyBytes, tallyIn, talliesBytes, savedFrom, tablesOf, save, readSaved};
 use quorum::Settings;
 use tally::Tally;
@@ -92,7 +92,7 @@ fn put_cells(count: u32, rounds: &[u32], sets: &[u8], values: &[u64], buffer: &m
     ensures { λ r. ⌜ now (buffer .exit) ≡ take headerLength (now (buffer .entry)) ++ talliesBytes (cellsFrom (tables (now (rounds .entry)) (now (sets .entry)) (now (values .entry))) 0 count) ⌝ }
 {
     for index in 0..count {
-        let cell = learner::cell_at(rounds, sets, values, index as usize);
+        let cell = tallies::cell_at(rounds, sets, values, index as usize);
         put_tally(buffer, saved_length(index), cell);
     }
 }
@@ -118,7 +118,7 @@ fn store_saved(count: u32, saved: &[u8], rounds: &mut [u32], sets: &mut [u8], va
 {
     for index in 0..count {
         let cell = tally_in(saved, saved_length(index));
-        learner::store_cell(rounds, sets, values, index as usize, cell);
+        tallies::store_cell(rounds, sets, values, index as usize, cell);
     }
 }
 
@@ -139,13 +139,13 @@ pub extern "C" fn myrthakel_learner_save(
         acceptors,
         instances,
     };
-    if !learner::sizes_allowed(settings, rounds.len(), sets.len(), values.len()) {
+    if !tallies::sizes_allowed(settings, rounds.len(), sets.len(), values.len()) {
         return 7;
     }
     if buffer.len() != saved_length(instances) {
         return 1;
     }
-    if !learner::all_possible(acceptors, instances, rounds, sets, values) {
+    if !tallies::all_possible(acceptors, instances, rounds, sets, values) {
         return 17;
     }
     put_header(settings, buffer);
@@ -169,7 +169,7 @@ pub extern "C" fn myrthakel_learner_read_saved(
         acceptors,
         instances,
     };
-    if !learner::sizes_allowed(settings, rounds.len(), sets.len(), values.len()) {
+    if !tallies::sizes_allowed(settings, rounds.len(), sets.len(), values.len()) {
         return 7;
     }
     if saved.len() < HEADER_LENGTH {

@@ -17,9 +17,9 @@ use Rattle.terms.specs.Values.{null, isNull}
 use Rattle.terms.specs.Votes.{isVoteBy}
 use Rattle.terms.proofs.Ladder.{by-test, if-elim, need-elim, both-true, and-true, or-left, or-right, or-cases}
 use Rattle.terms.proofs.Votes.{never-voted}
-use Rattle.wire.specs.declared.Message.{Message}
-use Rattle.wire.specs.declared.Message.the-variants.{Prepare, Promise}
-use Rattle.wire.proofs.Eliminators.{promise-elim}
+use Rattle.messages.specs.declared.Message.{Message}
+use Rattle.messages.specs.declared.Message.the-variants.{Prepare, Promise}
+use Rattle.messages.proofs.Eliminators.{promise-elim}
 use Rattle.wire.proofs.Laws.{Writable}
 use Rattle.wire.proofs.Parts.{ValueFits, promise-vote-round-fits, promise-value-fits}
 use Rattle.player.specs.Step.{Ruling, refused, sends}

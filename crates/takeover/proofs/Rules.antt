@@ -11,7 +11,7 @@ use Rattle.terms.specs.declared.Value.{Value}
 use Rattle.terms.specs.declared.Verdict.the-variants.{ToAcceptors}
 use Rattle.terms.specs.Ladder.{need_or_then_}
 use Rattle.terms.specs.Rounds.{theRound, sameRound}
-use Rattle.wire.specs.declared.Message.the-variants.{Prepare}
+use Rattle.messages.specs.declared.Message.the-variants.{Prepare}
 use Rattle.player.specs.Step.{Ruling, refused, sends}
 use Rattle.quorum.specs.Quorum.{hasMember}
 use Rattle.takeover.specs.declared.Cell.{Cell}

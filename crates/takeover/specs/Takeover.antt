@@ -4,7 +4,7 @@
 use Prim.Native.Nat.{ℕ, _+_, _-_, _%_, _≤_, _<_, max}
 use mathlib.Core.Path.{_≡_}
 use mathlib.Core.Bool.{Bool, not, _&&_, _||_}
-use lib.Dec.{eqb, ltb}
+use lib.Dec.{eqb, leb, ltb}
 use lib.ListN.{set}
 use Rattle.terms.specs.declared.Instance.{Instance}
 use Rattle.terms.specs.declared.Round.{Round}
@@ -14,10 +14,12 @@ use Rattle.terms.specs.Ladder.{if_then_else_, need_or_then_}
 use Rattle.terms.specs.Rounds.{theRound, none, isNone, ownerOf, atMost, sameRound}
 use Rattle.terms.specs.Values.{null, isNull}
 use Rattle.terms.specs.Votes.{isVoteBy}
-use Rattle.wire.specs.declared.Message.{Message}
-use Rattle.wire.specs.declared.Message.the-variants.{Prepare, Propose}
-use Rattle.wire.specs.Message.{whenPromise}
+use Rattle.messages.specs.declared.Message.{Message}
+use Rattle.messages.specs.declared.Message.the-variants.{Prepare, Propose}
+use Rattle.messages.specs.Message.{whenPromise}
 use Rattle.player.specs.Step.{Ruling, refused, sends, counts}
+use Rattle.quorum.specs.declared.Settings.{Settings}
+use Rattle.quorum.specs.Settings.{allowed}
 use Rattle.quorum.specs.Quorum.{majority, hasMember, withMember, within, size, reachesMajority}
 use Rattle.takeover.specs.declared.Cell.{Cell}
 use Rattle.takeover.specs.declared.Ruled.{Ruled}
@@ -39,6 +41,10 @@ cell round phase set bestVoteRound bestValue ownValue =
 
 abbrev pub freshCell : Cell
 freshCell = cell (theRound 0) idle 0 none null null
+
+-- The own number is 1 to 3.
+unfoldable pub ownAllowed : Settings → (own : ℕ) → Bool
+ownAllowed s own = allowed s && leb 1 own && leb own 3
 
 -- ---- possible cells
 

@@ -1,11 +1,12 @@
 // A backup's takeover of one instance: what it keeps of it, how it starts, and how promises are counted.
 ghost use mathlib.Core.Path.{_≡_};
 ghost use Prim.Native.Nat.{max};
-ghost use Rattle.takeover.specs.Takeover.{freshCell, isFresh, phaseFits, isStarted, possible, nextRound, start, counting, chosen, whenMajority, promise, rulingOf};
+ghost use Rattle.takeover.specs.Takeover.{freshCell, ownAllowed, isFresh, phaseFits, isStarted, possible, nextRound, start, counting, chosen, whenMajority, promise, rulingOf};
+use messages::Message;
+use quorum::Settings;
 use terms::Instance;
 use terms::Round;
 use terms::Value;
-use wire::Message;
 
 // What a backup keeps of one instance. The phase is its number in the lent table; any other number is an impossible cell.
 pub struct Cell {
@@ -41,6 +42,13 @@ pub fn fresh_cell() -> Cell
         best_value: Value { high: 0, low: 0 },
         own_value: Value { high: 0, low: 0 },
     }
+}
+
+// The own number is 1 to 3, whatever M is.
+pub fn own_allowed(settings: Settings, own: u32) -> bool
+    ensures { λ r. ⌜ r ≡ ownAllowed settings own ⌝ }
+{
+    quorum::settings_allowed(settings) & (1 <= own) & (own <= 3)
 }
 
 // ---- possible cells

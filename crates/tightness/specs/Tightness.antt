@@ -6,9 +6,6 @@ use contract.Lifetimes.{Lfts}
 use denote.Ref.{RefT, now}
 use denote.Triple.Clauses.{AtExit}
 use denote.Triple.Entry.{Args, Res}
-use Rattle.player.specs.Step.{outcome}
-use Rattle.quorum.specs.Settings.{settings}
-use Rattle.primary.specs.Primary.{primaryStep}
 use Rattle.numbers.proofs.read_u16.Reads as read-u16
 use Rattle.numbers.proofs.read_u32.Reads as read-u32
 use Rattle.numbers.proofs.read_u64.Reads as read-u64
@@ -27,10 +24,15 @@ use Rattle.terms.proofs.is_vote_by.Reads as is-vote-by
 use Rattle.terms.proofs.place_of.Reads as place-of
 use Rattle.terms.proofs.nowhere.Reads as nowhere
 use Rattle.terms.proofs.verdict_number.Reads as verdict-number
+use Rattle.messages.proofs.keeps_table.Reads as keeps-table
+use Rattle.messages.proofs.message_of.Reads as message-of
+use Rattle.messages.proofs.fields_of.Reads as fields-of
 use Rattle.wire.proofs.read_packet.Reads as read-packet
 use Rattle.wire.proofs.refusal.Reads as refusal
 use Rattle.wire.proofs.put_message.Reads as put-message
 use Rattle.wire.proofs.write_packet.Reads as write-packet
+use Rattle.player.specs.Step.{outcome}
+use Rattle.quorum.specs.Settings.{settings}
 use Rattle.quorum.proofs.settings_allowed.Reads as settings-allowed
 use Rattle.quorum.proofs.majority.Reads as majority
 use Rattle.quorum.proofs.has_member.Reads as has-member
@@ -39,6 +41,7 @@ use Rattle.quorum.proofs.size.Reads as size
 use Rattle.quorum.proofs.is_within.Reads as is-within
 use Rattle.quorum.proofs.reaches.Reads as reaches
 use Rattle.quorum.proofs.reaches_majority.Reads as reaches-majority
+use Rattle.primary.specs.Primary.{primaryStep}
 use Rattle.primary.proofs.fresh_primary.Reads as fresh-primary
 use Rattle.primary.proofs.step.Reads as primary-by-value
 use Rattle.primary.proofs.myrthakel_primary_step.Reads as primary-step
@@ -46,6 +49,7 @@ use Rattle.primary.proofs.myrthakel_primary_request as primary-request
 use Rattle.acceptor.proofs.fresh_cell.Reads as fresh-acceptor-cell
 use Rattle.acceptor.proofs.myrthakel_acceptor_step.Reads as acceptor-step
 use Rattle.takeover.proofs.fresh_cell.Reads as fresh-takeover-cell
+use Rattle.takeover.proofs.own_allowed.Reads as own-allowed
 use Rattle.takeover.proofs.is_possible.Reads as possible-takeover-cell
 use Rattle.takeover.proofs.start_cell.Reads as start-cell
 use Rattle.takeover.proofs.take_promise.Reads as take-promise
@@ -55,10 +59,10 @@ use Rattle.tally.proofs.fresh_tally.Reads as fresh-tally
 use Rattle.tally.proofs.is_decided.Reads as is-decided
 use Rattle.tally.proofs.is_possible.Reads as possible-tally-cell
 use Rattle.tally.proofs.count_vote.Reads as count-vote
-use Rattle.learner.proofs.sizes_allowed.Reads as sizes-allowed
-use Rattle.learner.proofs.cell_at.Reads as cell-at
-use Rattle.learner.proofs.store_cell.Reads as store-cell
-use Rattle.learner.proofs.all_possible.Reads as all-possible
+use Rattle.tallies.proofs.sizes_allowed.Reads as sizes-allowed
+use Rattle.tallies.proofs.cell_at.Reads as cell-at
+use Rattle.tallies.proofs.store_cell.Reads as store-cell
+use Rattle.tallies.proofs.all_possible.Reads as all-possible
 use Rattle.learner.proofs.myrthakel_learner_step.Reads as learner-step
 use Rattle.learner.proofs.answer_for.Reads as answer-for
 use Rattle.learner.proofs.myrthakel_learner_answer.Reads as learner-answer
@@ -124,6 +128,10 @@ pub record EveryCall : Type 0 where
   pub of-place-of : OneAnswer place-of.Learnt
   pub of-nowhere : OneAnswer nowhere.Learnt
   pub of-verdict-number : OneAnswer verdict-number.Learnt
+  -- messages
+  pub of-keeps-table : OneAnswer keeps-table.Learnt
+  pub of-message-of : OneAnswer message-of.Learnt
+  pub of-fields-of : OneAnswer fields-of.Learnt
   -- wire
   pub of-read-packet : OneAnswer read-packet.Learnt
   pub of-refusal : OneAnswer refusal.Learnt
@@ -148,6 +156,7 @@ pub record EveryCall : Type 0 where
   pub of-acceptor-step : OneAnswer acceptor-step.Learnt × OneContent acceptor-step.Learnt (λ κs exit. held-4 (exit .1 .1 .1))
   -- takeover
   pub of-fresh-takeover-cell : OneAnswer fresh-takeover-cell.Learnt
+  pub of-own-allowed : OneAnswer own-allowed.Learnt
   pub of-possible-takeover-cell : OneAnswer possible-takeover-cell.Learnt
   pub of-start-cell : OneAnswer start-cell.Learnt
   pub of-take-promise : OneAnswer take-promise.Learnt
@@ -159,11 +168,12 @@ pub record EveryCall : Type 0 where
   pub of-is-decided : OneAnswer is-decided.Learnt
   pub of-possible-tally-cell : OneAnswer possible-tally-cell.Learnt
   pub of-count-vote : OneAnswer count-vote.Learnt
-  -- learner
+  -- tallies
   pub of-sizes-allowed : OneAnswer sizes-allowed.Learnt
   pub of-cell-at : OneAnswer cell-at.Learnt
   pub of-store-cell : OneContent store-cell.Learnt (λ κs exit. held-3 exit)
   pub of-all-possible : OneAnswer all-possible.Learnt
+  -- learner
   pub of-learner-step : OneAnswer learner-step.Learnt × OneContent learner-step.Learnt (λ κs exit. held-3 (exit .1 .1 .1))
   pub of-answer-for : OneAnswer answer-for.Learnt
   pub of-learner-answer : OneAnswer learner-answer.Learnt × OneContent learner-answer.Learnt (λ κs exit. held-2 (exit .1 .1 .1 .1 .1 .1))

@@ -20,12 +20,12 @@ use Rattle.terms.specs.Values.{isNull}
 use Rattle.terms.specs.Votes.{isVoteBy}
 use Rattle.terms.proofs.Ladder.{and-true, or-left, or-right, need-elim, if-true}
 use Rattle.terms.proofs.Rounds.{owned-some}
-use Rattle.wire.specs.declared.Message.{Message}
-use Rattle.wire.specs.declared.Message.the-variants.{Request, Prepare, Promise, Propose, Vote}
+use Rattle.messages.specs.declared.Message.{Message}
+use Rattle.messages.specs.declared.Message.the-variants.{Request, Prepare, Promise, Propose, Vote}
+use Rattle.messages.specs.Table.{requestRow, prepareRow, promiseRow, proposeRow, voteRow, tableRow, keepsTable}
+use Rattle.messages.specs.Message.{fieldsOf}
 use Rattle.wire.specs.declared.Reading.{Reading}
 use Rattle.wire.specs.declared.Reading.the-variants.{Read, Refused}
-use Rattle.wire.specs.Table.{requestRow, prepareRow, promiseRow, proposeRow, voteRow, tableRow, keepsTable}
-use Rattle.wire.specs.Message.{fieldsOf}
 use Rattle.wire.specs.Packet.{packetLength, version, fieldsIn, readPacket, packetWith, packetOf, withMessage}
 use Rattle.wire.proofs.RoundTrip.{InRange, joined, columns, read-kept, read-fields, packet-reads}
 

@@ -13,8 +13,8 @@ use Rattle.terms.specs.declared.Value.{Value}
 use Rattle.terms.specs.Rounds.{ownerOf, ownedOr0, ownedNot0}
 use Rattle.terms.specs.Votes.{isVoteBy}
 use Rattle.terms.proofs.Rounds.{owned-or-0}
-use Rattle.wire.specs.declared.Message.the-variants.{Request, Prepare, Promise, Propose, Vote}
-use Rattle.wire.specs.Message.{fieldsOf}
+use Rattle.messages.specs.declared.Message.the-variants.{Request, Prepare, Promise, Propose, Vote}
+use Rattle.messages.specs.Message.{fieldsOf}
 use Rattle.wire.proofs.Laws.{Writable, prepare-kept, promise-kept, propose-kept, vote-kept}
 
 -- both halves fit

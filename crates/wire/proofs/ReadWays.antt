@@ -9,11 +9,11 @@ use lib.ListN.{length, getD}
 use borrow.Author.Tests.{eq-eqb, ne-eqb, le-leb, lt-leb, not-true, not-false}
 use Rattle.numbers.specs.BigEndian.{numberAt}
 use Rattle.terms.specs.Ladder.{need_or_then_}
-use Rattle.wire.specs.declared.Fields.{Fields}
-use Rattle.wire.specs.declared.Message.{Message}
+use Rattle.messages.specs.declared.Fields.{Fields}
+use Rattle.messages.specs.declared.Message.{Message}
+use Rattle.messages.specs.Table.{keepsTable}
+use Rattle.messages.specs.Message.{messageOf}
 use Rattle.wire.specs.declared.Reading.the-variants.{Read, Refused}
-use Rattle.wire.specs.Table.{keepsTable}
-use Rattle.wire.specs.Message.{messageOf}
 use Rattle.wire.specs.Packet.{packetLength, version, marked, fieldsIn, readPacket}
 
 module _ (p : List ℕ) where

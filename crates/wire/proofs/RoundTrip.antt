@@ -22,14 +22,14 @@ use Rattle.terms.specs.Values.{null, isNull}
 use Rattle.terms.specs.Verdict.{verdictNumber}
 use Rattle.terms.proofs.Ladder.{both-true}
 use Rattle.terms.proofs.Rounds.{owned-or-0}
-use Rattle.wire.specs.declared.Fields.{Fields}
-use Rattle.wire.specs.declared.Row.{Row}
-use Rattle.wire.specs.declared.Message.{Message}
-use Rattle.wire.specs.declared.Message.the-variants.{Request, Prepare, Promise, Propose, Vote}
+use Rattle.messages.specs.declared.Fields.{Fields}
+use Rattle.messages.specs.declared.Row.{Row}
+use Rattle.messages.specs.declared.Message.{Message}
+use Rattle.messages.specs.declared.Message.the-variants.{Request, Prepare, Promise, Propose, Vote}
+use Rattle.messages.specs.Table.{requestRow, prepareRow, promiseRow, proposeRow, voteRow, tableRow, keepsTable}
+use Rattle.messages.specs.Message.{fields, messageOf, fieldsOf}
 use Rattle.wire.specs.declared.Reading.{Reading}
 use Rattle.wire.specs.declared.Reading.the-variants.{Read, Refused}
-use Rattle.wire.specs.Table.{requestRow, prepareRow, promiseRow, proposeRow, voteRow, tableRow, keepsTable}
-use Rattle.wire.specs.Message.{fields, messageOf, fieldsOf}
 use Rattle.wire.specs.Packet.{packetLength, version, marked, fieldsIn, readPacket, Kept, packetWith, packetOf, written, writePacket}
 
 -- ---- packet and fields

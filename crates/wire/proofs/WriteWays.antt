@@ -12,10 +12,10 @@ use Rattle.numbers.proofs.Bytes.{written-out}
 use Rattle.terms.specs.declared.Verdict.the-variants.{Done}
 use Rattle.terms.specs.Ladder.{if_then_else_, need_or_then_}
 use Rattle.terms.specs.Verdict.{verdictNumber}
-use Rattle.wire.specs.declared.Fields.{Fields}
-use Rattle.wire.specs.declared.Message.{Message}
-use Rattle.wire.specs.Table.{keepsTable}
-use Rattle.wire.specs.Message.{fieldsOf}
+use Rattle.messages.specs.declared.Fields.{Fields}
+use Rattle.messages.specs.declared.Message.{Message}
+use Rattle.messages.specs.Table.{keepsTable}
+use Rattle.messages.specs.Message.{fieldsOf}
 use Rattle.wire.specs.Packet.{packetLength, version, packetWith, packetOf, withMessage, written, writePacket}
 
 -- the stores of the fields, one after the other

@@ -12,12 +12,12 @@ use Rattle.terms.specs.Ladder.{if_then_else_, need_or_then_}
 use Rattle.terms.specs.Rounds.{theInstance, theRound}
 use Rattle.terms.specs.declared.Verdict.the-variants.{Done}
 use Rattle.terms.specs.Verdict.{verdictNumber}
-use Rattle.wire.specs.declared.Fields.{Fields}
-use Rattle.wire.specs.declared.Message.{Message}
+use Rattle.messages.specs.declared.Fields.{Fields}
+use Rattle.messages.specs.declared.Message.{Message}
+use Rattle.messages.specs.Table.{keepsTable}
+use Rattle.messages.specs.Message.{fields, messageOf, fieldsOf}
 use Rattle.wire.specs.declared.Reading.{Reading}
 use Rattle.wire.specs.declared.Reading.the-variants.{Read, Refused}
-use Rattle.wire.specs.Table.{keepsTable}
-use Rattle.wire.specs.Message.{fields, messageOf, fieldsOf}
 
 abbrev pub packetLength : ℕ
 packetLength = 36

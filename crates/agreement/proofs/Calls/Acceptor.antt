@@ -14,8 +14,8 @@ use Rattle.terms.specs.Verdict.{saysSend}
 use Rattle.terms.proofs.Ladder.{if-false, both-true}
 use Rattle.terms.proofs.Places.{placed-index}
 use Rattle.terms.proofs.Rounds.{at-least}
-use Rattle.wire.specs.declared.Message.{Message}
-use Rattle.wire.specs.declared.Message.the-variants as kind
+use Rattle.messages.specs.declared.Message.{Message}
+use Rattle.messages.specs.declared.Message.the-variants as kind
 use Rattle.wire.specs.declared.Reading.the-variants.{Read}
 use Rattle.wire.specs.Packet.{packetOf}
 use Rattle.wire.proofs.Laws.{Writable, read-writable, written-reads}

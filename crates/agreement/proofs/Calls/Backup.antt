@@ -15,12 +15,12 @@ use Rattle.terms.specs.Places.{placed}
 use Rattle.terms.specs.Verdict.{saysSend}
 use Rattle.terms.proofs.Ladder.{if-elim, if-false}
 use Rattle.terms.proofs.Places.{PlacedBy, placed-index, placed-by}
-use Rattle.wire.specs.declared.Message.{Message}
-use Rattle.wire.specs.declared.Message.the-variants as kind
+use Rattle.messages.specs.declared.Message.{Message}
+use Rattle.messages.specs.declared.Message.the-variants as kind
+use Rattle.messages.specs.Message.{whenPromise}
+use Rattle.messages.proofs.Eliminators.{promise-elim}
 use Rattle.wire.specs.declared.Reading.the-variants.{Read}
-use Rattle.wire.specs.Message.{whenPromise}
 use Rattle.wire.specs.Packet.{packetOf}
-use Rattle.wire.proofs.Eliminators.{promise-elim}
 use Rattle.wire.proofs.Laws.{Writable, read-writable}
 use Rattle.player.specs.Step.{unchanged, sends, counts, ruled}
 use Rattle.quorum.specs.declared.Settings.{Settings}

@@ -19,10 +19,10 @@ use Rattle.terms.specs.Values.{sameValue}
 use Rattle.terms.specs.Verdict.{saysSend}
 use Rattle.terms.proofs.Ladder.{if-elim, if-false, both-true}
 use Rattle.terms.proofs.Places.{PlacedBy, placed-index, placed-by}
-use Rattle.wire.specs.declared.Message.the-variants as kind
+use Rattle.messages.specs.declared.Message.the-variants as kind
+use Rattle.messages.specs.Message.{whenVote}
+use Rattle.messages.proofs.Eliminators.{vote-elim}
 use Rattle.wire.specs.declared.Reading.the-variants.{Read}
-use Rattle.wire.specs.Message.{whenVote}
-use Rattle.wire.proofs.Eliminators.{vote-elim}
 use Rattle.player.specs.Step.{unchanged, counts, ruled}
 use Rattle.quorum.specs.declared.Settings.{Settings}
 use Rattle.quorum.specs.Voters.{Mem}
@@ -31,11 +31,10 @@ use Rattle.tally.specs.declared.Tally.{Tally}
 use Rattle.tally.specs.Tally.{isDecided}
 use Rattle.tally.specs.Counting.{whenDecided}
 use Rattle.tally.proofs.Laws.{counting-elim}
-use Rattle.learner.specs.Tables.{Tables, cellAt, withCell, Sized}
+use Rattle.tallies.specs.Tables.{Tables, cellAt, withCell, Sized}
+use Rattle.tallies.proofs.Laws.{cell-there, cell-apart, allowed-tables, index-within}
 use Rattle.learner.specs.Learner.{rule, learnerStep}
 use Rattle.learner.specs.Learner as players
-use Rattle.learner.proofs.Promises.{cell-there, cell-apart}
-use Rattle.learner.proofs.Ways.{allowed-tables, index-within}
 use Rattle.agreement.specs.Run.{learner, sent, Boxes, put, afterLearner, Handed}
 use Rattle.agreement.proofs.Basics.{put-all}
 use Rattle.agreement.proofs.Slot.{Slot, vote, LearnerSound}

@@ -12,10 +12,10 @@ use Rattle.terms.specs.Rounds.{theInstance, theRound}
 use Rattle.terms.specs.Verdict.{saysSend}
 use Rattle.terms.proofs.Ladder.{if-false}
 use Rattle.terms.proofs.Places.{PlacedBy}
-use Rattle.wire.specs.declared.Message.the-variants as kind
+use Rattle.messages.specs.declared.Message.the-variants as kind
+use Rattle.messages.proofs.Eliminators.{request-elim}
 use Rattle.wire.specs.declared.Reading.the-variants.{Read}
 use Rattle.wire.specs.Packet.{packetOf}
-use Rattle.wire.proofs.Eliminators.{request-elim}
 use Rattle.wire.proofs.Laws.{Writable, read-writable}
 use Rattle.player.specs.Step.{unchanged, ruled}
 use Rattle.quorum.specs.declared.Settings.{Settings}

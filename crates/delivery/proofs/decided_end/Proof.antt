@@ -4,8 +4,8 @@ use Prim.Native.Nat.{_≤_, _-_}
 use mathlib.Core.Path.{_≡_, sym, ap, _∙_}
 use mathlib.Core.Logic.{⊎-elim}
 use native.Mathlib.Omega.{arith}
-use Rattle.learner.specs.Tables.{tables, cellsFrom}
-use Rattle.learner.proofs.Cells.{cellsLeft, cells-all}
+use Rattle.tallies.specs.Tables.{tables, cellsFrom}
+use Rattle.tallies.proofs.Cells.{cellsLeft, cells-all}
 use Rattle.delivery.specs.Holes.{decidedEnd, decidedEndFrom}
 use Rattle.delivery.proofs.HoleWays.{end-rises, end-stays, end-reached}
 use borrow.Author.Needs.{needs}

@@ -3,8 +3,8 @@
 use Prim.Native.Nat.{_≤_, _-_}
 use mathlib.Core.Path.{_≡_, sym, _∙_}
 use native.Mathlib.Omega.{arith}
-use Rattle.learner.specs.Tables.{tables, cellsFrom}
-use Rattle.learner.proofs.Cells.{cellsLeft}
+use Rattle.tallies.specs.Tables.{tables, cellsFrom}
+use Rattle.tallies.proofs.Cells.{cellsLeft}
 use Rattle.delivery.specs.Holes.{firstHole, firstHoleFrom}
 use Rattle.delivery.proofs.HoleWays.{walk-begins, hole-here, hole-later, no-hole-left}
 use borrow.Author.Needs.{needs}

@@ -4,7 +4,7 @@ use Prim.Native.Nat.{_≤_, _-_}
 use mathlib.Core.Path.{_≡_, refl, _∙_}
 use native.Mathlib.Omega.{arith}
 use lib.ListN.{length}
-use Rattle.learner.specs.Tables.{tables, cellsFrom}
+use Rattle.tallies.specs.Tables.{tables, cellsFrom}
 use Rattle.delivery.specs.Delivery.{delivered}
 use Rattle.delivery.proofs.DeliveryWays.{written, split, split-all, split-past, split-stops, split-next, written-none, written-next, walk-done}
 use borrow.Author.Needs.{needs}

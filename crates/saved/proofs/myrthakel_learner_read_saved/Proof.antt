@@ -3,7 +3,7 @@
 use denote.Ref.{now}
 use native.Mathlib.Omega.{arith}
 use Rattle.quorum.specs.Settings.{settings}
-use Rattle.learner.specs.Tables.{tables}
+use Rattle.tallies.specs.Tables.{tables}
 use Rattle.saved.proofs.Ways.{brings, read-7, read-short, read-2, read-3, read-unlike, read-1, read-17, reads}
 use borrow.Author.Needs.{needs}
 use Rattle.saved.proofs.myrthakel_learner_read_saved.Statement.{statement}

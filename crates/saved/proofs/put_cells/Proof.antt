@@ -7,7 +7,7 @@ use lib.ListN.{length}
 use denote.Ref.{now}
 use borrow.Author.Needs.{needs}
 use Rattle.numbers.specs.Fronts.{withFront}
-use Rattle.learner.specs.Tables.{tables}
+use Rattle.tallies.specs.Tables.{tables}
 use Rattle.saved.proofs.Codec.{front, none-put, cell-stored, all-stored}
 use Rattle.saved.proofs.put_cells.Statement.{statement}
 use Rattle.saved.proofs.put_cells.Tie as tie

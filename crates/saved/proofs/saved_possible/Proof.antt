@@ -1,12 +1,12 @@
--- `saved::saved_possible` meets its contract. The invariant, as that of `learner::all_possible` over the tables made of the saved cells: the judgment of
+-- `saved::saved_possible` meets its contract. The invariant, as that of `tallies::all_possible` over the tables made of the saved cells: the judgment of
 -- the cells that are left is that of all.
 -- Assumes nothing.
 use Prim.Native.Nat.{_≤_, _-_}
 use mathlib.Core.Path.{_≡_, sym, ap, _∙_}
 use native.Mathlib.Omega.{arith}
 use borrow.Author.Needs.{needs}
-use Rattle.learner.specs.Tables.{allPossible}
-use Rattle.learner.proofs.Cells.{cellsLeft, all-possible-next, all-possible-stops, all-possible-ends}
+use Rattle.tallies.specs.Tables.{allPossible}
+use Rattle.tallies.proofs.Cells.{cellsLeft, all-possible-next, all-possible-stops, all-possible-ends}
 use Rattle.saved.specs.Saved.{savedFrom, tablesOf}
 use Rattle.saved.proofs.Lists.{saved-left, saved-read}
 use Rattle.saved.proofs.saved_possible.Statement.{statement}

@@ -5,7 +5,7 @@ use mathlib.Core.Path.{_≡_, refl, _∙_}
 use native.Mathlib.Omega.{arith}
 use lib.ListN.{length}
 use borrow.Author.Needs.{needs}
-use Rattle.learner.specs.Tables.{tables}
+use Rattle.tallies.specs.Tables.{tables}
 use Rattle.saved.specs.Saved.{savedFrom}
 use Rattle.saved.proofs.Lists.{replaced, none-stored, cell-stored, all-stored}
 use Rattle.saved.proofs.store_saved.Statement.{statement}
