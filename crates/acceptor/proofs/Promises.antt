@@ -2,74 +2,36 @@
 -- cell stays possible, and what is sent keeps the packet table. Each is a theorem of any player, from the facts of this player's rule and tables.
 -- Assumes nothing.
 use Prim.Native.Nat.{ℕ, _+_, _*_, _≤_, _<_, _^_}
-use mathlib.Core.Path.{_≡_, refl, sym, ap, _∙_, subst}
+use mathlib.Core.Path.{_≡_, refl, ap, _∙_, subst}
 use mathlib.Core.Bool.{true, false}
 use mathlib.Core.List.{List, [], _∷_}
-use native.Mathlib.Omega.{arith}
 use lib.Dec.{lit<}
 use lib.ListN.{length, length-set, length-replicate}
 use Rattle.terms.specs.declared.Instance.{Instance}
-use Rattle.terms.specs.declared.Place.{Place}
 use Rattle.terms.specs.declared.Place.the-variants.{At}
 use Rattle.terms.specs.declared.Round.{Round}
 use Rattle.terms.specs.declared.Value.{Value}
 use Rattle.terms.specs.declared.Verdict.the-variants.{ToLeader, ToLearners}
-use Rattle.terms.specs.Rounds.{theRound, none, ownedOr0, ownedNot0, atMost}
-use Rattle.terms.specs.Values.{null}
-use Rattle.terms.specs.Votes.{isVoteBy}
+use Rattle.terms.specs.Rounds.{theRound, none, atMost}
 use Rattle.terms.specs.Columns.{roundAt, valueAt}
-use Rattle.terms.specs.Places.{placed}
 use Rattle.terms.specs.Verdict.{verdictNumber, saysSend}
 use Rattle.terms.proofs.Columns.{round-there, round-apart, value-there, value-apart, fresh-number, fresh-value, below-set, below-value, below-fresh}
-use Rattle.terms.proofs.Ladder.{need-elim, both-true, and-true}
-use Rattle.terms.proofs.Rounds.{owned-or-0, zero-owned}
-use Rattle.terms.proofs.Places.{PlacedBy, placed-index, placed-by}
-use Rattle.terms.proofs.Votes.{never-voted, vote-rises, vote-itself}
-use Rattle.messages.specs.declared.Message.{Message}
 use Rattle.messages.specs.declared.Message.the-variants.{Prepare, Promise, Propose, Vote}
 use Rattle.messages.specs.Table.{keepsTable}
 use Rattle.messages.specs.Message.{fieldsOf}
-use Rattle.messages.proofs.Eliminators.{prepare-elim, propose-elim}
 use Rattle.wire.proofs.Laws.{Writable, prepare-owned, propose-owned}
 use Rattle.wire.proofs.Parts.{ValueFits, prepare-fits, propose-fits, propose-value-fits, promise-writable, vote-writable}
 use Rattle.player.specs.Promises.{OneOf, first, later, packetRefusals, NumbersAre, RefusalKeepsAll, UsesCell, OtherCellsStay, PossibleStays, SendsKept, FittingStays}
-use Rattle.player.specs.Step.{Ruling, refused, sends}
 use Rattle.player.proofs.Numbers.{one-of}
 use Rattle.player.proofs.Promises.{RuledBy, NextCell, SendsOnly, refusal-keeps-all, numbers-are, other-cells-stay, possible-stays, sends-kept, fitting-stays, tables-hold, any-cell}
 use Rattle.quorum.specs.declared.Settings.{Settings}
-use Rattle.acceptor.specs.declared.Cell.{Cell}
-use Rattle.acceptor.specs.Acceptor.{cell, freshCell, possible, obeying, rule, Tables, freshTables, cellAt, withCell, place, acceptor, acceptorStep, Sized, Within, Fitting}
-use Rattle.acceptor.proofs.Ways.{promising, voting, allowed-tables, index-within}
-
--- ---- by the kinds that an acceptor takes
-
--- what holds of both kinds, obeyed or refused, and of the refusal of any other kind, holds of the rule
-module _ (P : Ruling Cell → Type 0) (own : ℕ) (c : Cell) (m : Message) (other : P (refused 6)) (impossible : P (refused 17)) (below : P (refused 10)) where
-  pub rule-elim : ((i : Instance) (r : Round) → m ≡ Prepare i r → possible c ≡ true → atMost (c .round) r ≡ true → P (promising own i r c))
-      → ((i : Instance) (r : Round) (v : Value) → m ≡ Propose i r v → possible c ≡ true → atMost (c .round) r ≡ true → P (voting own i r v c)) → P (rule own c m)
-  unfolding rule obeying
-  rule-elim promises votes =
-      prepare-elim P _ _ m
-      (λ i r e. need-elim P _ _ _ impossible λ fine. need-elim P _ _ _ below λ low. promises i r e fine low)
-      (propose-elim P _ _ m (λ i r v e. need-elim P _ _ _ impossible λ fine. need-elim P _ _ _ below λ low. votes i r v e fine low) other)
-
-pub place-elim : (Such : ℕ → Type 0) (N : ℕ) (m : Message) → Such 6 → Such 8 → PlacedBy Such (place N m)
-unfolding place
-place-elim Such N m six eight =
-    prepare-elim (PlacedBy Such) _ _ m (λ i r _. placed-by Such N i eight) (propose-elim (PlacedBy Such) _ _ m (λ i r v _. placed-by Such N i eight) six)
-
--- a place that a message has is an instance's below N
-pub placed-below : (N : ℕ) (m : Message) (index : ℕ) → place N m ≡ At index → index < N
-unfolding place
-placed-below N m =
-    prepare-elim (λ p. (index : ℕ) → p ≡ At index → index < N) _ _ m (λ i r _ index e. placed-index N i index e .1)
-    (propose-elim (λ p. (index : ℕ) → p ≡ At index → index < N) _ _ m (λ i r v _ index e. placed-index N i index e .1)
-    (λ index e. let z : _≡_ {A = ℕ} 0 1 = cc in absurd (omega arith)))
+use Rattle.ballot.specs.declared.Cell.{Cell}
+use Rattle.ballot.specs.Ballot.{cell, freshCell, possible, rule}
+use Rattle.ballot.proofs.Laws.{same-cell, vote-by-later, promised-possible, voted-possible, rule-elim, place-elim, placed-below}
+use Rattle.acceptor.specs.Acceptor.{Tables, freshTables, cellAt, withCell, acceptor, acceptorStep, Sized, Within, Fitting}
+use Rattle.acceptor.proofs.Ways.{allowed-tables, index-within}
 
 -- ---- cells and tables
-
-same-cell : {c d : Cell} → c .round ≡ d .round → c .«vote_round» ≡ d .«vote_round» → c .value ≡ d .value → c ≡ d
-same-cell r b v = λ i. cell (r i) (b i) (v i)
 
 pub cell-there : (t : Tables) (index : ℕ) (c : Cell) → Within t index → cellAt (withCell t index c) index ≡ c
 cell-there t index c w =
@@ -83,41 +45,27 @@ cell-apart t index other c differ =
 
 pub fresh-cells : (N index : ℕ) → index < N → cellAt (freshTables N) index ≡ freshCell
 fresh-cells N index inside =
-    same-cell (ap theRound (fresh-number N 0 index inside)) (ap theRound (fresh-number N 4294967295 index inside)) (fresh-value N index inside)
-
-pub fresh-possible : possible freshCell ≡ true
-unfolding possible
-fresh-possible = and-true zero-owned (sym (never-voted (theRound 0) none null refl))
+    same-cell (ap theRound (fresh-number N 0 index inside)) (ap theRound (fresh-number N (none .0) index inside)) (fresh-value N index inside)
 
 pub fresh-sized : (N : ℕ) → Sized N (freshTables N)
-fresh-sized N = record { of-rounds = length-replicate N 0; of-vote-rounds = length-replicate N 4294967295; of-values = length-replicate (2 * N) 0 }
+fresh-sized N = record { of-rounds = length-replicate N 0; of-vote-rounds = length-replicate N (none .0); of-values = length-replicate (2 * N) 0 }
 
 pub fresh-fitting : (N : ℕ) → Fitting (freshTables N)
 fresh-fitting N = record {
   fitting-rounds = below-fresh (2 ^ 32) N 0 (lit< tt);
-  fitting-vote-rounds = below-fresh (2 ^ 32) N 4294967295 (lit< tt);
+  fitting-vote-rounds = below-fresh (2 ^ 32) N (none .0) (lit< tt);
   fitting-values = below-fresh (2 ^ 64) (2 * N) 0 (lit< tt);
 }
 
--- ---- what the rule stores and sends
-
-promised-possible : (c : Cell) (r : Round) → ownedNot0 r ≡ true → possible c ≡ true → atMost (c .round) r ≡ true → possible (cell r (c .«vote_round») (c .value)) ≡ true
-unfolding possible
-promised-possible c r owned fine low =
-    and-true (owned-or-0 r owned) (vote-rises (c .round) r (c .«vote_round») (c .value) low (both-true (ownedOr0 (c .round)) (isVoteBy (c .round) (c .«vote_round») (c .value)) fine .1))
-
-voted-possible : (r : Round) (v : Value) → ownedOr0 r ≡ true → possible (cell r r v) ≡ true
-unfolding possible
-voted-possible r v owned = and-true owned (vote-itself r v owned)
+-- ---- what is stored and sent
 
 pub promise-sent : {own : ℕ} {t : Tables} → own ≤ 6 → Fitting t → (index : ℕ) (i : Instance) (r : Round) → Writable (Prepare i r) → possible (cellAt t index) ≡ true
     → atMost (roundAt (t .rounds) index) r ≡ true → Writable (Promise own i r (roundAt (t .voteRounds) index) (valueAt (t .values) index))
-unfolding possible
 promise-sent {own} {t} few fits index i r w fine low =
     let c = cellAt t index in
     promise-writable own i r (c .«vote_round») (c .value) few (prepare-fits i r w) (fits .fitting-vote-rounds index)
     (record { high-fits = fits .fitting-values (2 * index); low-fits = fits .fitting-values (2 * index + 1) }) (prepare-owned i r (w .kept))
-    (vote-rises (c .round) r (c .«vote_round») (c .value) low (both-true (ownedOr0 (c .round)) (isVoteBy (c .round) (c .«vote_round») (c .value)) fine .1))
+    (vote-by-later c r fine low)
 
 pub vote-sent : {own : ℕ} → own ≤ 6 → (i : Instance) (r : Round) (v : Value) → Writable (Propose i r v) → Writable (Vote own i r v)
 vote-sent {own} few i r v w = vote-writable own i r v few (propose-fits i r v w) (propose-value-fits i r v w) (propose-owned i r v (w .kept))

@@ -35,6 +35,7 @@ use Rattle.quorum.specs.Settings.{acceptorsAllowed, instancesAllowed, allowed}
 use Rattle.quorum.specs.Quorum.{majority, bit, hasMember, withMember, within, reaches}
 use Rattle.quorum.specs.Voters.{Mem, newest, older}
 use Rattle.primary.specs.Primary as primaries
+use Rattle.ballot.specs.Ballot as ballots
 use Rattle.acceptor.specs.Acceptor as acceptors
 use Rattle.takeover.specs.Takeover as takeovers
 use Rattle.backup.specs.Backup as backups
@@ -139,7 +140,7 @@ unfolding ones numberAt if_then_else_ need_or_then_ ownerOf ownedOr0 ownedNot0 r
     messageOf fieldsOf whenRequest whenPrepare whenPromise whenPropose whenVote fieldsIn readPacket packetWith packetOf placed afterReading afterPlacing ruled act step saysSend
     acceptorsAllowed instancesAllowed allowed majority bit hasMember withMember within reaches put sameBytes wasSent plays played
     primaries.possible primaries.rule primaries.primaryStep primaries.lentStep
-    acceptors.possible acceptors.obeying acceptors.rule acceptors.acceptorAllowed acceptors.place acceptors.acceptor acceptors.acceptorStep
+    ballots.possible ballots.obeying ballots.rule ballots.place acceptors.acceptorAllowed acceptors.acceptor acceptors.acceptorStep
     takeovers.isFresh takeovers.phaseFits takeovers.isStarted takeovers.possible takeovers.nextRound takeovers.start takeovers.counting takeovers.chosen takeovers.whenMajority takeovers.promise
     takeovers.rule takeovers.ownAllowed backups.sizesAllowed backups.backupAllowed backups.backup backups.backupStep backups.backupStart
     tallies.isDecided tallies.isFresh tallies.isHeard tallies.possible whenDecided added vote learners.sizesAllowed learner.rule learner.learner learner.learnerStep

@@ -30,9 +30,10 @@ use Rattle.quorum.specs.Settings.{allowed}
 use Rattle.primary.specs.declared.Primary.{Primary}
 use Rattle.primary.specs.Primary as primaries
 use Rattle.primary.proofs.Laws.{lent-is-the-record}
-use Rattle.acceptor.specs.declared.Cell as acceptorCells
+use Rattle.ballot.specs.declared.Cell as acceptorCells
+use Rattle.ballot.specs.Ballot as ballots
+use Rattle.ballot.proofs.Laws as ballot
 use Rattle.acceptor.specs.Acceptor as acceptors
-use Rattle.acceptor.proofs.Promises as acceptor
 use Rattle.takeover.specs.declared.Cell as backupCells
 use Rattle.takeover.specs.Takeover as takeovers
 use Rattle.backup.specs.Backup as backups
@@ -101,8 +102,8 @@ unfolding primaries.rule
 primary-rules N c m fine =
     request-elim Rules _ _ m (λ _ _ _. passing Rules _ _ fine (need-elim Rules _ _ _ (neither 12 refl refl) λ _. neither 101 refl refl)) (neither 6 refl refl)
 
-acceptor-rules : (own : ℕ) (c : acceptorCells.Cell) (m : Message) → acceptors.possible c ≡ true → Rules (acceptors.rule own c m)
-unfolding acceptors.rule acceptors.obeying
+acceptor-rules : (own : ℕ) (c : acceptorCells.Cell) (m : Message) → ballots.possible c ≡ true → Rules (ballots.rule own c m)
+unfolding ballots.rule ballots.obeying
 acceptor-rules own c m fine =
     prepare-elim Rules _ _ m (λ _ _ _. passing Rules _ _ fine (need-elim Rules _ _ _ (neither 10 refl refl) λ _. neither 102 refl refl))
     (propose-elim Rules _ _ m (λ _ _ _ _. passing Rules _ _ fine (need-elim Rules _ _ _ (neither 10 refl refl) λ _. neither 103 refl refl)) (neither 6 refl refl))
@@ -234,7 +235,7 @@ module _ {s : Settings} {w : Boxes} (ok : allowed s ≡ true) (tidy : Tidy s w) 
           (start-rules (s .acceptors) own (backups.cellAt (w .backup own) index) i floor v (tidy .backups own .cells index (placed-index N i index stands .1)))
 
   pub never-by-7-or-17 : NeverBy7Or17 s w
-  unfolding primaries.primaryStep acceptors.acceptorStep acceptors.acceptor acceptors.place backups.backupStep backups.backup learnerStep learner
+  unfolding primaries.primaryStep acceptors.acceptorStep acceptors.acceptor ballots.place backups.backupStep backups.backup learnerStep learner
   never-by-7-or-17 = record {
     primary = λ p.
         let held = tidy .primary in
@@ -245,8 +246,8 @@ module _ {s : Settings} {w : Boxes} (ok : allowed s ≡ true) (tidy : Tidy s w) 
     acceptors = λ own p known.
         let t = w .acceptor own in
         step-well p t (acceptors.acceptor s own) (acceptor-allowed s own t ok known (tidy .acceptors own .sized))
-        (λ m. acceptor.place-elim Neither7Nor17 N m (neither 6 refl refl) (neither 8 refl refl))
-        (λ m index stands. acceptor-rules own (acceptors.cellAt t index) m (tidy .acceptors own .cells index (acceptor.placed-below N m index stands)));
+        (λ m. ballot.place-elim Neither7Nor17 N m (neither 6 refl refl) (neither 8 refl refl))
+        (λ m index stands. acceptor-rules own (acceptors.cellAt t index) m (tidy .acceptors own .cells index (ballot.placed-below N m index stands)));
     backups = λ own p least most.
         let t = w .backup own in
         step-well p t (backups.backup s own) (backup-allowed s own t ok least most (tidy .backups own .sized))

@@ -20,8 +20,8 @@ use Rattle.backup.specs.Backup.{backupStep, backupStart}
 use Rattle.backup.proofs.Promises as backup
 use Rattle.tally.specs.Tally.{isDecided}
 use Rattle.tallies.specs.Tables.{cellAt}
-use Rattle.learner.specs.Learner.{learnerStep}
 use Rattle.tallies.proofs.Laws as learner-tables
+use Rattle.learner.specs.Learner.{learnerStep}
 use Rattle.learner.proofs.Promises as learner
 use Rattle.agreement.specs.Run.{Caller, the-primary, Sent, Boxes, freshBoxes, sending, Call, Later, now, and-then, Run}
 use Rattle.agreement.specs.Run as run

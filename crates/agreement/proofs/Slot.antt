@@ -17,8 +17,8 @@ use Rattle.terms.specs.Ladder.{if_then_else_}
 use Rattle.terms.specs.Rounds.{isNone, ownerOf, rank}
 use Rattle.quorum.specs.Quorum.{Member, Quorum}
 use Rattle.quorum.specs.Voters.{Mem}
-use Rattle.acceptor.specs.declared.Cell as acceptors
-use Rattle.acceptor.specs.Acceptor as acceptor
+use Rattle.ballot.specs.declared.Cell as acceptors
+use Rattle.ballot.specs.Ballot as acceptor
 use Rattle.takeover.specs.declared.Cell as backups
 use Rattle.takeover.specs.Takeover as backup
 use Rattle.tally.specs.declared.Tally.{Tally}

@@ -17,6 +17,8 @@ use Rattle.quorum.specs.Voters.{Mem}
 use Rattle.primary.specs.Primary as primaries
 use Rattle.primary.proofs.Laws.{lent-is-the-record}
 use Rattle.primary.proofs.Promises as primary
+use Rattle.ballot.specs.Ballot as ballots
+use Rattle.ballot.proofs.Laws as ballot
 use Rattle.acceptor.specs.Acceptor as acceptors
 use Rattle.acceptor.proofs.Promises as acceptor
 use Rattle.takeover.specs.Takeover as takeovers
@@ -26,8 +28,8 @@ use Rattle.backup.proofs.Promises as backup
 use Rattle.tally.specs.Tally as tallies
 use Rattle.tally.proofs.Laws as tally
 use Rattle.tallies.specs.Tables as learners
-use Rattle.learner.specs.Learner.{learner, learnerStep}
 use Rattle.tallies.proofs.Laws as learner-tables
+use Rattle.learner.specs.Learner.{learner, learnerStep}
 use Rattle.learner.proofs.Promises as learner-laws
 use Rattle.learner.proofs.Promises.{learner-sized-stays}
 use Rattle.agreement.specs.Run.{Caller, Sent, sent, Boxes, freshBoxes, sending, Handed, Call, Later, now, and-then, Run}
@@ -51,7 +53,7 @@ pub record TidyPrimary (N : ℕ) (held : List ℕ) : Type 0 where
 -- All boxes.
 pub record Tidy (s : Settings) (w : Boxes) : Type 0 where
   pub primary : TidyPrimary (s .instances) (w .primary)
-  pub acceptors : (own : ℕ) → TidyTables (s .instances) acceptors.Sized acceptors.Fitting acceptors.cellAt acceptors.possible (w .acceptor own)
+  pub acceptors : (own : ℕ) → TidyTables (s .instances) acceptors.Sized acceptors.Fitting acceptors.cellAt ballots.possible (w .acceptor own)
   pub backups : (own : ℕ) → TidyTables (s .instances) backups.Sized backups.Fitting backups.cellAt (takeovers.possible (s .acceptors) own) (w .backup own)
   pub learners : (which : ℕ) → TidyTables (s .instances) learners.Sized learners.Fitting learners.cellAt (tallies.possible (s .acceptors)) (w .learner which)
   pub bytes : (x : Sent) → Mem x (w .packets) → Bytes (x .packet)
@@ -64,7 +66,7 @@ fresh-tidy s =
       acceptors = λ _. record {
         sized = acceptor.fresh-sized N;
         fitting = acceptor.fresh-fitting N;
-        cells = λ i below. ap acceptors.possible (acceptor.fresh-cells N i below) ∙ acceptor.fresh-possible;
+        cells = λ i below. ap ballots.possible (acceptor.fresh-cells N i below) ∙ ballot.fresh-possible;
       };
       backups = λ own. record {
         sized = backup.fresh-sized N;
@@ -131,7 +133,7 @@ module _ {s : Settings} {w : Boxes} (tidy : Tidy s w) where
       record {
         primary = tidy .primary;
         acceptors =
-            put-all (λ _ u. TidyTables (s .instances) acceptors.Sized acceptors.Fitting acceptors.cellAt acceptors.possible u)
+            put-all (λ _ u. TidyTables (s .instances) acceptors.Sized acceptors.Fitting acceptors.cellAt ballots.possible u)
             (record {
               sized = acceptor.acceptor-sized-stays s own p t (before .sized);
               fitting = acceptor.acceptor-fitting-stays s own p t (handed-bytes h) (before .fitting);

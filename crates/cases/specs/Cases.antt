@@ -18,6 +18,7 @@ use Rattle.messages.specs.declared.Message.the-variants.{Prepare, Promise, Prop
 use Rattle.wire.specs.Packet.{packetOf}
 use Rattle.player.specs.Step.{Outcome, outcome, unchanged}
 use Rattle.quorum.specs.Settings.{settings}
+use Rattle.ballot.specs.Ballot as ballots
 use Rattle.acceptor.specs.Acceptor as acceptors
 use Rattle.takeover.specs.Takeover as takeovers
 use Rattle.backup.specs.Backup as backups
@@ -74,13 +75,13 @@ abbrev fresh : acceptors.Tables
 fresh = acceptors.freshTables 8
 
 abbrev voted : acceptors.Tables
-voted = acceptors.withCell fresh 0 (acceptors.cell (theRound 0) (theRound 0) v)
+voted = acceptors.withCell fresh 0 (ballots.cell (theRound 0) (theRound 0) v)
 
 abbrev promised : acceptors.Tables
-promised = acceptors.withCell fresh 0 (acceptors.cell (theRound 1) (theRound 0) v)
+promised = acceptors.withCell fresh 0 (ballots.cell (theRound 1) (theRound 0) v)
 
 abbrev asked : acceptors.Tables
-asked = acceptors.withCell fresh 0 (acceptors.cell (theRound 1) none null)
+asked = acceptors.withCell fresh 0 (ballots.cell (theRound 1) none null)
 
 -- The backup's tables, fresh but for the cell of instance 0.
 abbrev idle : backups.Tables

@@ -17,6 +17,10 @@ use Rattle.terms.specs.Ladder.{if_then_else_}
 use Rattle.terms.specs.Verdict.{verdictNumber}
 use Rattle.player.specs.Step.{Ruling, refused, sends, counts}
 use Rattle.primary.proofs.myrthakel_primary_request as primary-request
+use Rattle.ballot.specs.declared.Cell as ballotCells
+use Rattle.ballot.specs.declared.Ruled as obeying
+use Rattle.ballot.specs.declared.Ruled.the-variants as obeyed
+use Rattle.ballot.specs.Ballot as ballot
 use Rattle.takeover.specs.declared.Cell.{Cell}
 use Rattle.takeover.specs.declared.Ruled.{Ruled}
 use Rattle.takeover.specs.declared.Ruled.the-variants as ruled
@@ -48,6 +52,20 @@ ruled-back (ruled.Refused number) = refl
 
 one-takeover : (answer other : Ruled) → takeover.rulingOf answer ≡ takeover.rulingOf other → answer ≡ other
 one-takeover answer other e = sym (ruled-back answer) ∙ ap ruledBy e ∙ ruled-back other
+
+obeyedBy : Ruling ballotCells.Cell → obeying.Ruled
+obeyedBy (refused number) = obeyed.Refused number
+obeyedBy (sends verdict message cell) = if eqb (verdictNumber verdict) 102 then obeyed.Promised cell message else obeyed.Voted cell message
+obeyedBy (counts verdict cell) = obeyed.Refused 0
+
+obeyed-back : (answer : obeying.Ruled) → obeyedBy (ballot.rulingOf answer) ≡ answer
+unfolding obeyedBy if_then_else_
+obeyed-back (obeyed.Promised cell message) = refl
+obeyed-back (obeyed.Voted cell message) = refl
+obeyed-back (obeyed.Refused number) = refl
+
+one-ballot : (answer other : obeying.Ruled) → ballot.rulingOf answer ≡ ballot.rulingOf other → answer ≡ other
+one-ballot answer other e = sym (obeyed-back answer) ∙ ap obeyedBy e ∙ obeyed-back other
 
 countedBy : Ruling Tally → Counted
 countedBy (refused number) = counted.Refused number
@@ -108,7 +126,10 @@ every-call = record {
   of-primary-by-value = (λ _ _ _ _ _ _. seen (λ o. record { primary = o .tables; answer = o .verdict }), λ _ _ _ _ _ _. seen (λ o. o .packet));
   of-primary-step = (λ _ _ _ _ _ _. seen (λ o. o .verdict), λ _ _ _ _ _ _. seen (λ o. (o .packet, o .tables)));
   of-primary-request = (λ _ _ _ _ _ _. seen (λ o. o .verdict), λ _ _ _ _ _ _. seen (λ o. (o .packet, o .tables)));
-  of-fresh-acceptor-cell = λ _ _ _ _ _ _. equal;
+  of-fresh-ballot-cell = λ _ _ _ _ _ _. equal;
+  of-possible-ballot-cell = λ _ _ _ _ _ _. equal;
+  of-ballot-place-of = λ _ _ _ _ _ _. equal;
+  of-obey = λ _ _ answer other _ _ p q. one-ballot answer other (p ∙ sym q);
   of-acceptor-step = (λ _ _ _ _ _ _. seen (λ o. o .verdict), λ _ _ _ _ _ _. seen (λ o. (o .packet, o .tables .rounds, o .tables .voteRounds, o .tables .values)));
   of-fresh-takeover-cell = λ _ _ _ _ _ _. equal;
   of-own-allowed = λ _ _ _ _ _ _. equal;

@@ -46,7 +46,10 @@ use Rattle.primary.proofs.fresh_primary.Reads as fresh-primary
 use Rattle.primary.proofs.step.Reads as primary-by-value
 use Rattle.primary.proofs.myrthakel_primary_step.Reads as primary-step
 use Rattle.primary.proofs.myrthakel_primary_request as primary-request
-use Rattle.acceptor.proofs.fresh_cell.Reads as fresh-acceptor-cell
+use Rattle.ballot.proofs.fresh_cell.Reads as fresh-ballot-cell
+use Rattle.ballot.proofs.is_possible.Reads as possible-ballot-cell
+use Rattle.ballot.proofs.place_of.Reads as ballot-place-of
+use Rattle.ballot.proofs.obey.Reads as obey
 use Rattle.acceptor.proofs.myrthakel_acceptor_step.Reads as acceptor-step
 use Rattle.takeover.proofs.fresh_cell.Reads as fresh-takeover-cell
 use Rattle.takeover.proofs.own_allowed.Reads as own-allowed
@@ -151,8 +154,12 @@ pub record EveryCall : Type 0 where
   pub of-primary-by-value : OneAnswer primary-by-value.Learnt × OneContent primary-by-value.Learnt (λ κs exit. held-1 (exit .1 .1 .1))
   pub of-primary-step : OneAnswer primary-step.Learnt × OneContent primary-step.Learnt (λ κs exit. held-2 (exit .1 .1))
   pub of-primary-request : OneAnswer requested × OneContent requested (λ κs exit. held-2 (exit .1 .1))
+  -- ballot
+  pub of-fresh-ballot-cell : OneAnswer fresh-ballot-cell.Learnt
+  pub of-possible-ballot-cell : OneAnswer possible-ballot-cell.Learnt
+  pub of-ballot-place-of : OneAnswer ballot-place-of.Learnt
+  pub of-obey : OneAnswer obey.Learnt
   -- acceptor
-  pub of-fresh-acceptor-cell : OneAnswer fresh-acceptor-cell.Learnt
   pub of-acceptor-step : OneAnswer acceptor-step.Learnt × OneContent acceptor-step.Learnt (λ κs exit. held-4 (exit .1 .1 .1))
   -- takeover
   pub of-fresh-takeover-cell : OneAnswer fresh-takeover-cell.Learnt

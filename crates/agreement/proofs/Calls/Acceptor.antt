@@ -22,11 +22,12 @@ use Rattle.wire.proofs.Laws.{Writable, read-writable, written-reads}
 use Rattle.player.specs.Step.{unchanged, ruled}
 use Rattle.quorum.specs.declared.Settings.{Settings}
 use Rattle.quorum.specs.Voters.{Mem, newest, older}
-use Rattle.acceptor.specs.declared.Cell.{Cell}
-use Rattle.acceptor.specs.Acceptor.{cell, possible, Tables, cellAt, withCell, Sized, place, acceptorStep}
+use Rattle.ballot.specs.declared.Cell.{Cell}
+use Rattle.ballot.specs.Ballot.{cell, possible, place}
+use Rattle.ballot.proofs.Laws.{rule-elim, prepare-placed, propose-placed, place-elim}
+use Rattle.acceptor.specs.Acceptor.{Tables, cellAt, withCell, Sized, acceptorStep}
 use Rattle.acceptor.specs.Acceptor as players
-use Rattle.acceptor.proofs.Promises.{rule-elim, place-elim, promise-sent, vote-sent, cell-there, cell-apart}
-use Rattle.acceptor.proofs.Ways as ways
+use Rattle.acceptor.proofs.Promises.{promise-sent, vote-sent, cell-there, cell-apart}
 use Rattle.acceptor.proofs.Ways.{allowed-tables, index-within}
 use Rattle.agreement.specs.Run.{acceptor, sent, Boxes, put, afterAcceptor, Handed}
 use Rattle.agreement.proofs.Basics.{extend, put-all, put-same}
@@ -123,13 +124,13 @@ module _ {s : Settings} {w : Boxes} (tidy : Tidy s w) (h : Holds s w) (own : ℕ
       let bytes = handed-bytes tidy handed in
       rule-elim (λ r. Holds s (afterAcceptor w own (ruled p t (withCell t index) r))) own (cellAt t index) m (refuses p 6 refl) (refuses p 17 refl) (refuses p 10 refl)
       (λ i r e fine low.
-      let at = placed-index (s .instances) i index (sym (ways.prepare own i r .place-so (s .instances)) ∙ ap (place (s .instances)) (sym e) ∙ stands) in
+      let at = placed-index (s .instances) i index (sym (prepare-placed (s .instances) i r) ∙ ap (place (s .instances)) (sym e) ∙ stands) in
       let writable = promise-sent (brings .own-few) fits index i r (read-writable p _ bytes (reads ∙ ap Read e)) fine low in
       at-index i index (at .0) (λ k. Writable (kind.Promise own i r (cellAt t k .«vote_round») (cellAt t k .value)) → k < s .instances → cellAt t k .round .0 ≤ r .0
       → Holds s (obeyed k (kind.Promise own i r (cellAt t k .«vote_round») (cellAt t k .value)) (cell r (cellAt t k .«vote_round») (cellAt t k .value))))
       (λ w below rise. promises i below (brings .sized) r (cellAt t (i .0)) (sym (h .acceptors own (i .0) below)) w rise) writable (at .1) (low-round (cellAt t index) r fine low))
       (λ i r v e fine low.
-      let at = placed-index (s .instances) i index (sym (ways.propose own i r v .place-so (s .instances)) ∙ ap (place (s .instances)) (sym e) ∙ stands) in
+      let at = placed-index (s .instances) i index (sym (propose-placed (s .instances) i r v) ∙ ap (place (s .instances)) (sym e) ∙ stands) in
       let writable = vote-sent (brings .own-few) i r v (read-writable p _ bytes (reads ∙ ap Read e)) in
       at-index i index (at .0) (λ k. k < s .instances → cellAt t k .round .0 ≤ r .0 → Holds s (obeyed k (kind.Vote own i r v) (cell r r v)))
       (λ below rise. votes i below (brings .sized) r v (met-propose (met h handed (reads ∙ ap Read e))) writable (rw (← h .acceptors own (i .0) below) rise)) (at .1)

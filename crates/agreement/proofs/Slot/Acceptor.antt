@@ -9,8 +9,8 @@ use Rattle.terms.specs.declared.Round.{Round}
 use Rattle.terms.specs.Rounds.{rank}
 use Rattle.terms.proofs.Rounds.{rank-some, rank-most}
 use Rattle.quorum.specs.Voters.{Mem, older}
-use Rattle.acceptor.specs.declared.Cell.{Cell}
-use Rattle.acceptor.specs.Acceptor.{cell}
+use Rattle.ballot.specs.declared.Cell.{Cell}
+use Rattle.ballot.specs.Ballot.{cell}
 use Rattle.agreement.specs.Run.{put}
 use Rattle.agreement.proofs.Basics.{extend, put-same, put-all}
 use Rattle.agreement.proofs.Slot.{Slot, Sound, Promise, Propose, AcceptorSound, promise, vote}

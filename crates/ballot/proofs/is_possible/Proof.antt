@@ -1,9 +1,9 @@
--- `acceptor::is_possible` meets its contract: each test is what its call ensures.
+-- `ballot::is_possible` meets its contract: each test is what its call ensures.
 -- Assumes nothing.
-use Rattle.acceptor.specs.Acceptor.{possible}
+use Rattle.ballot.specs.Ballot.{possible}
 use borrow.Author.Needs.{needs}
-use Rattle.acceptor.proofs.is_possible.Statement.{statement}
-use Rattle.acceptor.proofs.is_possible.Tie as tie
+use Rattle.ballot.proofs.is_possible.Statement.{statement}
+use Rattle.ballot.proofs.is_possible.Tie as tie
 
 owned-or-0-requires : tie.Need-owned-or-0-requires
 owned-or-0-requires c κs = search needs
