@@ -1,7 +1,6 @@
-// The bench: one depot with M = 3 and N = 1,024, all players fresh, driven by lines of standard input. A line is read first and handled after, so that the
-// tables pass through the handling alone: each function that passes on many tables is dear to check.
+// The bench: one depot with M = 3 and N = 1,024, all players fresh, driven by lines of standard input. The tables are arrays of `main`, which lends a player
+// its own where a line is for it: each function that is handed many tables is dear to check.
 ghost use mathlib.Core.Path.{_≡_};
-ghost use lib.ListN.{length};
 ghost use Rattle.bench.specs.Bench.{freshVoteRounds};
 use libc::STDIN_FILENO;
 use libc::STDOUT_FILENO;
@@ -48,6 +47,11 @@ enum Command {
         value: Value,
     },
     Bad,
+}
+
+enum Asked {
+    Line(Command, Input),
+    End,
 }
 
 // ---- lines of the input
@@ -287,6 +291,20 @@ fn command_in(line: &[u8], length: usize, packet: &mut [u8]) -> Command {
     command_of(&line[..length], packet)
 }
 
+// What the input's next line asks for, and the input after it.
+fn next_command(
+    start: Input,
+    chunk: &mut [u8; 4096],
+    line: &mut [u8; 128],
+    packet: &mut [u8; 36],
+) -> Asked {
+    let taken = next_line(start, chunk, line);
+    let Next::Line(length, input) = taken else {
+        return Asked::End;
+    };
+    Asked::Line(command_in(line, length, packet), input)
+}
+
 // ---- what a line prints
 
 fn print_name(letter: &[u8], number: u32) {
@@ -365,7 +383,7 @@ fn print_line(command: Command, answer: u32, packet: &[u8; 36]) {
     print_packet(packet);
 }
 
-// ---- the players: an acceptor's vote rounds are a table of its own, and the other tables of like players are sections of one
+// ---- the players: like players' tables of one kind are an array, with a table for each
 
 // "each of 1,024 cells starts with the never-voted mark"
 fn fresh_vote_rounds() -> [u32; 1024]
@@ -374,68 +392,60 @@ fn fresh_vote_rounds() -> [u32; 1024]
     [terms::NONE; 1024]
 }
 
+fn give_to_primary(packet: &mut [u8; 36], next: &mut [u32; 1]) -> u32 {
+    primary::myrthakel_primary_step(ACCEPTORS, INSTANCES, packet, next)
+}
+
 fn give_to_acceptor(
     own: u32,
-    packet: &mut [u8],
-    rounds: &mut [u32],
-    vote_rounds: &mut [u32],
-    values: &mut [u64],
-) -> u32
-    requires rounds { ⌜ length (now rounds) ≡ 3072 ⌝ }
-    requires values { ⌜ length (now values) ≡ 6144 ⌝ }
-{
+    packet: &mut [u8; 36],
+    rounds: &mut [[u32; 1024]; 3],
+    vote_rounds: &mut [[u32; 1024]; 3],
+    values: &mut [[u64; 2048]; 3],
+) -> u32 {
     if 2 < own {
         return 7;
     }
-    let start = (own as usize) * 1024;
-    let end = start + 1024;
+    let at = own as usize;
     acceptor::myrthakel_acceptor_step(
         ACCEPTORS,
         INSTANCES,
         own,
         packet,
-        &mut rounds[start..end],
-        vote_rounds,
-        &mut values[2 * start..2 * end],
+        &mut rounds[at],
+        &mut vote_rounds[at],
+        &mut values[at],
     )
 }
 
 fn give_to_backup(
     own: u32,
-    packet: &mut [u8],
-    rounds: &mut [u32],
-    phases: &mut [u8],
-    sets: &mut [u8],
-    best_vote_rounds: &mut [u32],
-    best_values: &mut [u64],
-    own_values: &mut [u64],
-) -> u32
-    requires rounds { ⌜ length (now rounds) ≡ 3072 ⌝ }
-    requires phases { ⌜ length (now phases) ≡ 3072 ⌝ }
-    requires sets { ⌜ length (now sets) ≡ 3072 ⌝ }
-    requires best_vote_rounds { ⌜ length (now «best_vote_rounds») ≡ 3072 ⌝ }
-    requires best_values { ⌜ length (now «best_values») ≡ 6144 ⌝ }
-    requires own_values { ⌜ length (now «own_values») ≡ 6144 ⌝ }
-{
+    packet: &mut [u8; 36],
+    rounds: &mut [[u32; 1024]; 3],
+    phases: &mut [[u8; 1024]; 3],
+    sets: &mut [[u8; 1024]; 3],
+    best_vote_rounds: &mut [[u32; 1024]; 3],
+    best_values: &mut [[u64; 2048]; 3],
+    own_values: &mut [[u64; 2048]; 3],
+) -> u32 {
     if own < 1 {
         return 7;
     }
     if 3 < own {
         return 7;
     }
-    let start = ((own - 1) as usize) * 1024;
-    let end = start + 1024;
+    let at = (own - 1) as usize;
     backup::myrthakel_backup_step(
         ACCEPTORS,
         INSTANCES,
         own,
         packet,
-        &mut rounds[start..end],
-        &mut phases[start..end],
-        &mut sets[start..end],
-        &mut best_vote_rounds[start..end],
-        &mut best_values[2 * start..2 * end],
-        &mut own_values[2 * start..2 * end],
+        &mut rounds[at],
+        &mut phases[at],
+        &mut sets[at],
+        &mut best_vote_rounds[at],
+        &mut best_values[at],
+        &mut own_values[at],
     )
 }
 
@@ -444,29 +454,21 @@ fn start_backup(
     instance: u32,
     floor: u32,
     value: Value,
-    packet: &mut [u8],
-    rounds: &mut [u32],
-    phases: &mut [u8],
-    sets: &mut [u8],
-    best_vote_rounds: &mut [u32],
-    best_values: &mut [u64],
-    own_values: &mut [u64],
-) -> u32
-    requires rounds { ⌜ length (now rounds) ≡ 3072 ⌝ }
-    requires phases { ⌜ length (now phases) ≡ 3072 ⌝ }
-    requires sets { ⌜ length (now sets) ≡ 3072 ⌝ }
-    requires best_vote_rounds { ⌜ length (now «best_vote_rounds») ≡ 3072 ⌝ }
-    requires best_values { ⌜ length (now «best_values») ≡ 6144 ⌝ }
-    requires own_values { ⌜ length (now «own_values») ≡ 6144 ⌝ }
-{
+    packet: &mut [u8; 36],
+    rounds: &mut [[u32; 1024]; 3],
+    phases: &mut [[u8; 1024]; 3],
+    sets: &mut [[u8; 1024]; 3],
+    best_vote_rounds: &mut [[u32; 1024]; 3],
+    best_values: &mut [[u64; 2048]; 3],
+    own_values: &mut [[u64; 2048]; 3],
+) -> u32 {
     if own < 1 {
         return 7;
     }
     if 3 < own {
         return 7;
     }
-    let start = ((own - 1) as usize) * 1024;
-    let end = start + 1024;
+    let at = (own - 1) as usize;
     backup::myrthakel_backup_start(
         ACCEPTORS,
         INSTANCES,
@@ -476,99 +478,78 @@ fn start_backup(
         value.high,
         value.low,
         packet,
-        &mut rounds[start..end],
-        &mut phases[start..end],
-        &mut sets[start..end],
-        &mut best_vote_rounds[start..end],
-        &mut best_values[2 * start..2 * end],
-        &mut own_values[2 * start..2 * end],
+        &mut rounds[at],
+        &mut phases[at],
+        &mut sets[at],
+        &mut best_vote_rounds[at],
+        &mut best_values[at],
+        &mut own_values[at],
     )
 }
 
-fn give_to_acceptors(
-    own: u32,
-    packet: &mut [u8],
-    rounds: &mut [u32],
-    vote_rounds_0: &mut [u32],
-    vote_rounds_1: &mut [u32],
-    vote_rounds_2: &mut [u32],
-    values: &mut [u64],
-) -> u32
-    requires rounds { ⌜ length (now rounds) ≡ 3072 ⌝ }
-    requires values { ⌜ length (now values) ≡ 6144 ⌝ }
-{
-    if own == 0 {
-        return give_to_acceptor(0, packet, rounds, vote_rounds_0, values);
-    }
-    if own == 1 {
-        return give_to_acceptor(1, packet, rounds, vote_rounds_1, values);
-    }
-    give_to_acceptor(own, packet, rounds, vote_rounds_2, values)
+fn give_to_learner(
+    packet: &[u8; 36],
+    rounds: &mut [u32; 1024],
+    voters: &mut [u8; 1024],
+    values: &mut [u64; 2048],
+) -> u32 {
+    learner::myrthakel_learner_step(ACCEPTORS, INSTANCES, packet, rounds, voters, values)
 }
 
 // ---- the run
 
 // One line after the other: what it asks for is done, and told in a line.
-fn run(
-    line: &mut [u8; 128],
-    chunk: &mut [u8; 4096],
-    next: &mut [u32; 1],
-    rounds: &mut [u32; 3072],
-    vote_rounds_0: &mut [u32; 1024],
-    vote_rounds_1: &mut [u32; 1024],
-    vote_rounds_2: &mut [u32; 1024],
-    values: &mut [u64; 6144],
-    backup_rounds: &mut [u32; 3072],
-    phases: &mut [u8; 3072],
-    promisers: &mut [u8; 3072],
-    best_vote_rounds: &mut [u32; 3072],
-    best_values: &mut [u64; 6144],
-    own_values: &mut [u64; 6144],
-    learner_rounds: &mut [u32; 1024],
-    voters: &mut [u8; 1024],
-    learner_values: &mut [u64; 2048],
-) {
+fn main() {
+    let mut chunk = [0u8; 4096];
+    let mut line = [0u8; 128];
+    let mut next = [0u32; 1];
+    let mut rounds = [[0u32; 1024]; 3];
+    let mut vote_rounds = [fresh_vote_rounds(); 3];
+    let mut values = [[0u64; 2048]; 3];
+    let mut backup_rounds = [[0u32; 1024]; 3];
+    let mut phases = [[0u8; 1024]; 3];
+    let mut promisers = [[0u8; 1024]; 3];
+    let mut best_vote_rounds = [[terms::NONE; 1024]; 3];
+    let mut best_values = [[0u64; 2048]; 3];
+    let mut own_values = [[0u64; 2048]; 3];
+    let mut learner_rounds = [terms::NONE; 1024];
+    let mut voters = [0u8; 1024];
+    let mut learner_values = [0u64; 2048];
+    io::write_all(STDOUT_FILENO, b"player verdict packet\n");
     let mut input = Input { from: 0, until: 0 };
     let mut turns = u64::MAX;
     while 0 < turns {
         turns -= 1;
-        let taken = next_line(input, chunk, line);
-        let Next::Line(length, rest) = taken else {
+        let mut packet = [0u8; 36];
+        let asked = next_command(input, &mut chunk, &mut line, &mut packet);
+        let Asked::Line(command, rest) = asked else {
             return;
         };
         input = rest;
-        let mut packet = [0u8; 36];
-        let command = command_in(line, length, &mut packet);
         let answer = match command {
-            Command::Primary => {
-                primary::myrthakel_primary_step(ACCEPTORS, INSTANCES, &mut packet, next)
-            }
-            Command::Acceptor(own) => give_to_acceptors(
+            Command::Primary => give_to_primary(&mut packet, &mut next),
+            Command::Acceptor(own) => give_to_acceptor(
                 own,
                 &mut packet,
-                rounds,
-                vote_rounds_0,
-                vote_rounds_1,
-                vote_rounds_2,
-                values,
+                &mut rounds,
+                &mut vote_rounds,
+                &mut values,
             ),
             Command::Backup(own) => give_to_backup(
                 own,
                 &mut packet,
-                backup_rounds,
-                phases,
-                promisers,
-                best_vote_rounds,
-                best_values,
-                own_values,
+                &mut backup_rounds,
+                &mut phases,
+                &mut promisers,
+                &mut best_vote_rounds,
+                &mut best_values,
+                &mut own_values,
             ),
-            Command::Learner => learner::myrthakel_learner_step(
-                ACCEPTORS,
-                INSTANCES,
+            Command::Learner => give_to_learner(
                 &packet,
-                learner_rounds,
-                voters,
-                learner_values,
+                &mut learner_rounds,
+                &mut voters,
+                &mut learner_values,
             ),
             Command::Start {
                 own,
@@ -581,55 +562,15 @@ fn run(
                 floor,
                 value,
                 &mut packet,
-                backup_rounds,
-                phases,
-                promisers,
-                best_vote_rounds,
-                best_values,
-                own_values,
+                &mut backup_rounds,
+                &mut phases,
+                &mut promisers,
+                &mut best_vote_rounds,
+                &mut best_values,
+                &mut own_values,
             ),
             Command::Bad => 0,
         };
         print_line(command, answer, &packet);
     }
-}
-
-fn main() {
-    let mut line = [0u8; 128];
-    let mut chunk = [0u8; 4096];
-    let mut next = [0u32; 1];
-    let mut rounds = [0u32; 3072];
-    let mut vote_rounds_0 = fresh_vote_rounds();
-    let mut vote_rounds_1 = fresh_vote_rounds();
-    let mut vote_rounds_2 = fresh_vote_rounds();
-    let mut values = [0u64; 6144];
-    let mut backup_rounds = [0u32; 3072];
-    let mut phases = [0u8; 3072];
-    let mut promisers = [0u8; 3072];
-    let mut best_vote_rounds = [terms::NONE; 3072];
-    let mut best_values = [0u64; 6144];
-    let mut own_values = [0u64; 6144];
-    let mut learner_rounds = [terms::NONE; 1024];
-    let mut voters = [0u8; 1024];
-    let mut learner_values = [0u64; 2048];
-    io::write_all(STDOUT_FILENO, b"player verdict packet\n");
-    run(
-        &mut line,
-        &mut chunk,
-        &mut next,
-        &mut rounds,
-        &mut vote_rounds_0,
-        &mut vote_rounds_1,
-        &mut vote_rounds_2,
-        &mut values,
-        &mut backup_rounds,
-        &mut phases,
-        &mut promisers,
-        &mut best_vote_rounds,
-        &mut best_values,
-        &mut own_values,
-        &mut learner_rounds,
-        &mut voters,
-        &mut learner_values,
-    );
 }
