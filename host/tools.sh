@@ -28,6 +28,13 @@ else
     run_built() { qemu-x86_64 "$@"; }
 fi
 
+# The libraries that a host links.
+libraries='primary acceptor backup learner delivery holes saved'
+
+archive_files() { # NAME..
+    printf 'target/staticlib/lib%s.a ' "$@"
+}
+
 # Writes the archives of libraries. Making one proves its crate, so one that is newer than all of crates/ is used as it is; the others are made side by side.
 archives() { # NAME..
     local name archive old=() status=0

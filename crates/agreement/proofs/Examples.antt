@@ -44,7 +44,7 @@ use Rattle.tally.specs.Counting.{whenDecided, added, vote}
 use Rattle.tallies.specs.Tables as learners
 use Rattle.learner.specs.Learner as learner
 use Rattle.delivery.specs.Delivery.{delivered}
-use Rattle.delivery.specs.Holes as holes
+use Rattle.holes.specs.Holes as holes
 use Rattle.agreement.specs.Run.{Caller, Sent, sent, Boxes, freshBoxes, put, Handed, Call, Later, now, and-then, Run, VoteSent, Decided}
 use Rattle.agreement.specs.Run as run
 use Rattle.agreement.specs.Agreement.{Agreed}

@@ -45,9 +45,9 @@ use Rattle.tallies.specs.Tables as learners
 use Rattle.learner.specs.declared.Answer.the-variants as answers
 use Rattle.learner.specs.Learner.{rule, learner, learnerStep, told, answerAt, answer}
 use Rattle.learner.proofs.Promises as learner-laws
-use Rattle.delivery.specs.declared.Hole.the-variants as holes
+use Rattle.holes.specs.declared.Hole.the-variants as holes
 use Rattle.delivery.specs.Delivery.{deliver}
-use Rattle.delivery.specs.Holes.{isHole, firstHoleFrom, hole}
+use Rattle.holes.specs.Holes.{isHole, firstHoleFrom, hole}
 use Rattle.saved.specs.Saved.{save}
 use Rattle.agreement.specs.Run.{Boxes}
 use Rattle.agreement.specs.Agreement.{Neither7Nor17, NeverBy7Or17}

@@ -20,9 +20,9 @@ use Rattle.backup.specs.Backup.{backupStep, backupStart}
 use Rattle.tallies.specs.Tables.{cells}
 use Rattle.learner.specs.declared.Answer.the-variants as answers
 use Rattle.learner.specs.Learner.{learnerStep, answer}
-use Rattle.delivery.specs.declared.Hole.the-variants as holes
+use Rattle.holes.specs.declared.Hole.the-variants as holes
 use Rattle.delivery.specs.Delivery.{delivered, deliver}
-use Rattle.delivery.specs.Holes.{hole}
+use Rattle.holes.specs.Holes.{hole}
 use Rattle.saved.specs.Saved.{save}
 use Rattle.agreement.specs.Run.{acceptor, Sent, Boxes, Later, Run, Decided, nothing, not-yet, says, said}
 

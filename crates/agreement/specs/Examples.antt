@@ -24,8 +24,8 @@ use Rattle.primary.specs.Primary.{lentStep}
 use Rattle.acceptor.specs.Acceptor.{acceptorStep}
 use Rattle.backup.specs.Backup.{backupStep, backupStart}
 use Rattle.learner.specs.Learner.{learnerStep}
-use Rattle.delivery.specs.declared.Hole.the-variants as holes
-use Rattle.delivery.specs.Holes.{hole}
+use Rattle.holes.specs.declared.Hole.the-variants as holes
+use Rattle.holes.specs.Holes.{hole}
 use Rattle.agreement.specs.Run.{Sent, Boxes, freshBoxes, afterPrimary, afterAcceptor, afterBackup, afterLearner, VoteSent, not-yet, says, said}
 use Rattle.agreement.specs.Agreement.{deliveredBy}
 

@@ -1,4 +1,2 @@
-mod DeliveryWays
-mod HoleWays
+mod Ways
 pub mod Delivered
-pub mod LeastHole

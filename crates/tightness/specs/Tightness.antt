@@ -70,8 +70,8 @@ use Rattle.learner.proofs.myrthakel_learner_step.Reads as learner-step
 use Rattle.learner.proofs.answer_for.Reads as answer-for
 use Rattle.learner.proofs.myrthakel_learner_answer.Reads as learner-answer
 use Rattle.delivery.proofs.myrthakel_learner_deliver.Reads as learner-deliver
-use Rattle.delivery.proofs.find_hole.Reads as find-hole
-use Rattle.delivery.proofs.myrthakel_learner_first_hole.Reads as learner-first-hole
+use Rattle.holes.proofs.find_hole.Reads as find-hole
+use Rattle.holes.proofs.myrthakel_learner_first_hole.Reads as learner-first-hole
 use Rattle.saved.proofs.myrthakel_learner_save.Reads as learner-save
 use Rattle.saved.proofs.myrthakel_learner_read_saved.Reads as learner-read-saved
 
@@ -186,6 +186,7 @@ pub record EveryCall : Type 0 where
   pub of-learner-answer : OneAnswer learner-answer.Learnt × OneContent learner-answer.Learnt (λ κs exit. held-2 (exit .1 .1 .1 .1 .1 .1))
   -- delivery
   pub of-learner-deliver : OneAnswer learner-deliver.Learnt × OneContent learner-deliver.Learnt (λ κs exit. held-2 (exit .1 .1 .1 .1 .1))
+  -- holes
   pub of-find-hole : OneAnswer find-hole.Learnt
   pub of-learner-first-hole : OneAnswer learner-first-hole.Learnt × OneContent learner-first-hole.Learnt (λ κs exit. held-1 (exit .1 .1 .1 .1 .1))
   -- saved

@@ -1,6 +1,6 @@
 -- `delivery::myrthakel_learner_deliver` meets its contract: each return is a way out of `deliver`.
 -- Assumes nothing.
-use Rattle.delivery.proofs.DeliveryWays.{deliver-7, deliver-1, deliver-17, deliver-done}
+use Rattle.delivery.proofs.Ways.{deliver-7, deliver-1, deliver-17, deliver-done}
 use borrow.Author.Needs.{needs}
 use Rattle.delivery.proofs.myrthakel_learner_deliver.Statement.{statement}
 use Rattle.delivery.proofs.myrthakel_learner_deliver.Tie as tie

@@ -6,7 +6,7 @@ use native.Mathlib.Omega.{arith}
 use lib.ListN.{length}
 use Rattle.tallies.specs.Tables.{tables, cellsFrom}
 use Rattle.delivery.specs.Delivery.{delivered}
-use Rattle.delivery.proofs.DeliveryWays.{written, split, split-all, split-past, split-stops, split-next, written-none, written-next, walk-done}
+use Rattle.delivery.proofs.Ways.{written, split, split-all, split-past, split-stops, split-next, written-none, written-next, walk-done}
 use borrow.Author.Needs.{needs}
 use Rattle.delivery.proofs.write_delivered.Statement.{statement}
 use Rattle.delivery.proofs.write_delivered.Tie as tie

@@ -1,9 +1,9 @@
--- `delivery::find_hole` meets its contract: each return is a way out of `hole`.
+-- `holes::find_hole` meets its contract: each return is a way out of `hole`.
 -- Assumes nothing.
-use Rattle.delivery.proofs.HoleWays.{hole-7, hole-17, hole-walked}
+use Rattle.holes.proofs.Ways.{hole-7, hole-17, hole-walked}
 use borrow.Author.Needs.{needs}
-use Rattle.delivery.proofs.find_hole.Statement.{statement}
-use Rattle.delivery.proofs.find_hole.Tie as tie
+use Rattle.holes.proofs.find_hole.Statement.{statement}
+use Rattle.holes.proofs.find_hole.Tie as tie
 
 sizes-allowed-requires : tie.Need-sizes-allowed-requires
 sizes-allowed-requires c κs = search needs

@@ -1,4 +1,4 @@
--- `delivery::decided_end` meets its contract. The invariant: the end that the walk comes to from here is the end of all.
+-- `holes::decided_end` meets its contract. The invariant: the end that the walk comes to from here is the end of all.
 -- Assumes nothing.
 use Prim.Native.Nat.{_≤_, _-_}
 use mathlib.Core.Path.{_≡_, sym, ap, _∙_}
@@ -6,11 +6,11 @@ use mathlib.Core.Logic.{⊎-elim}
 use native.Mathlib.Omega.{arith}
 use Rattle.tallies.specs.Tables.{tables, cellsFrom}
 use Rattle.tallies.proofs.Cells.{cellsLeft, cells-all}
-use Rattle.delivery.specs.Holes.{decidedEnd, decidedEndFrom}
-use Rattle.delivery.proofs.HoleWays.{end-rises, end-stays, end-reached}
+use Rattle.holes.specs.Holes.{decidedEnd, decidedEndFrom}
+use Rattle.holes.proofs.Ways.{end-rises, end-stays, end-reached}
 use borrow.Author.Needs.{needs}
-use Rattle.delivery.proofs.decided_end.Statement.{statement}
-use Rattle.delivery.proofs.decided_end.Tie as tie
+use Rattle.holes.proofs.decided_end.Statement.{statement}
+use Rattle.holes.proofs.decided_end.Tie as tie
 
 abbrev Inv-loop : tie.InvT-loop
 Inv-loop acceptors instances rounds sets values end₀ number₀ end number =

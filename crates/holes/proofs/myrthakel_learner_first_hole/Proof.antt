@@ -1,11 +1,11 @@
--- `delivery::myrthakel_learner_first_hole` meets its contract: each arm knows the answer, and leaves what that says.
+-- `holes::myrthakel_learner_first_hole` meets its contract: each arm knows the answer, and leaves what that says.
 -- Assumes nothing.
 use mathlib.Core.Path.{ap, _∙_}
-use Rattle.delivery.specs.Holes.{finding}
-use Rattle.delivery.proofs.HoleWays.{finding-at, finding-nowhere, finding-refused}
+use Rattle.holes.specs.Holes.{finding}
+use Rattle.holes.proofs.Ways.{finding-at, finding-nowhere, finding-refused}
 use borrow.Author.Needs.{needs}
-use Rattle.delivery.proofs.myrthakel_learner_first_hole.Statement.{statement}
-use Rattle.delivery.proofs.myrthakel_learner_first_hole.Tie as tie
+use Rattle.holes.proofs.myrthakel_learner_first_hole.Statement.{statement}
+use Rattle.holes.proofs.myrthakel_learner_first_hole.Tie as tie
 
 find-hole-requires : tie.Need-find-hole-requires
 find-hole-requires c κs = search needs

@@ -13,8 +13,8 @@ use Rattle.quorum.specs.declared.Settings.{Settings}
 use Rattle.tally.specs.declared.Tally.{Tally}
 use Rattle.tally.specs.Tally.{isDecided}
 use Rattle.tallies.specs.Tables.{Tables, cellAt, learnerAllowed, cells, allPossible}
-use Rattle.delivery.specs.declared.Hole.{Hole}
-use Rattle.delivery.specs.declared.Hole.the-variants as holes
+use Rattle.holes.specs.declared.Hole.{Hole}
+use Rattle.holes.specs.declared.Hole.the-variants as holes
 
 -- One past the highest decided instance of cells that begin with this number; `end` where none of them is decided.
 unfoldable pub decidedEndFrom : (M number end : ℕ) → List Tally → ℕ

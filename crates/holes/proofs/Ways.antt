@@ -15,9 +15,9 @@ use Rattle.tally.specs.declared.Tally.{Tally}
 use Rattle.tally.specs.Tally.{isDecided}
 use Rattle.tallies.specs.Tables.{Tables, cellAt, cellsFrom, cells, learnerAllowed, allPossible}
 use Rattle.tallies.proofs.Cells.{cellsLeft, cells-all, cells-next, cells-end}
-use Rattle.delivery.specs.declared.Hole.{Hole}
-use Rattle.delivery.specs.declared.Hole.the-variants as holes
-use Rattle.delivery.specs.Holes.{decidedEndFrom, decidedEnd, isHole, firstHoleFrom, firstHole, hole, found, finding}
+use Rattle.holes.specs.declared.Hole.{Hole}
+use Rattle.holes.specs.declared.Hole.the-variants as holes
+use Rattle.holes.specs.Holes.{decidedEndFrom, decidedEnd, isHole, firstHoleFrom, firstHole, hole, found, finding}
 
 module _ (M end : ℕ) (t : Tables) (number count : ℕ) where
   module _ (inside : number < count) (c : Tally) (c-so : c ≡ cellAt t number) where

@@ -1,9 +1,9 @@
--- `delivery::is_hole` meets its contract: the code is the definition.
+-- `holes::is_hole` meets its contract: the code is the definition.
 -- Assumes nothing.
-use Rattle.delivery.specs.Holes.{isHole}
+use Rattle.holes.specs.Holes.{isHole}
 use borrow.Author.Needs.{needs}
-use Rattle.delivery.proofs.is_hole.Statement.{statement}
-use Rattle.delivery.proofs.is_hole.Tie as tie
+use Rattle.holes.proofs.is_hole.Statement.{statement}
+use Rattle.holes.proofs.is_hole.Tie as tie
 
 is-decided-requires : tie.Need-is-decided-requires
 is-decided-requires c κs = search needs

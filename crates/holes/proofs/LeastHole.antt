@@ -19,9 +19,9 @@ use Rattle.player.specs.Promises.{OneOf, first, later}
 use Rattle.quorum.specs.declared.Settings.{Settings}
 use Rattle.tally.specs.Tally.{isDecided}
 use Rattle.tallies.specs.Tables.{Tables, cellAt, cellsFrom, cells}
-use Rattle.delivery.specs.declared.Hole.{Hole}
-use Rattle.delivery.specs.declared.Hole.the-variants as holes
-use Rattle.delivery.specs.Holes.{decidedEndFrom, decidedEnd, isHole, firstHoleFrom, firstHole, hole, finding, HoleAt, Least}
+use Rattle.holes.specs.declared.Hole.{Hole}
+use Rattle.holes.specs.declared.Hole.the-variants as holes
+use Rattle.holes.specs.Holes.{decidedEndFrom, decidedEnd, isHole, firstHoleFrom, firstHole, hole, finding, HoleAt, Least}
 
 -- what holds of a number, and of every other one, holds of each
 here-or-elsewhere : (P : ℕ → Type 0) (number j : ℕ) → P number → ((number ≡ j → ⊥) → P j) → P j

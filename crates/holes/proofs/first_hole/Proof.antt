@@ -1,15 +1,15 @@
--- `delivery::first_hole` meets its contract. The invariant: the first hole from here on is the first hole of all.
+-- `holes::first_hole` meets its contract. The invariant: the first hole from here on is the first hole of all.
 -- Assumes nothing.
 use Prim.Native.Nat.{_≤_, _-_}
 use mathlib.Core.Path.{_≡_, sym, _∙_}
 use native.Mathlib.Omega.{arith}
 use Rattle.tallies.specs.Tables.{tables, cellsFrom}
 use Rattle.tallies.proofs.Cells.{cellsLeft}
-use Rattle.delivery.specs.Holes.{firstHole, firstHoleFrom}
-use Rattle.delivery.proofs.HoleWays.{walk-begins, hole-here, hole-later, no-hole-left}
+use Rattle.holes.specs.Holes.{firstHole, firstHoleFrom}
+use Rattle.holes.proofs.Ways.{walk-begins, hole-here, hole-later, no-hole-left}
 use borrow.Author.Needs.{needs}
-use Rattle.delivery.proofs.first_hole.Statement.{statement}
-use Rattle.delivery.proofs.first_hole.Tie as tie
+use Rattle.holes.proofs.first_hole.Statement.{statement}
+use Rattle.holes.proofs.first_hole.Tie as tie
 
 abbrev Inv-loop : tie.InvT-loop
 Inv-loop acceptors instances rounds sets values end number₀ number =
