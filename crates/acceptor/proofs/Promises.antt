@@ -6,9 +6,8 @@ use mathlib.Core.Path.{_≡_, refl, ap, _∙_, subst}
 use mathlib.Core.Bool.{true, false}
 use mathlib.Core.List.{List, [], _∷_}
 use lib.Dec.{lit<}
-use lib.ListN.{length, length-set, length-replicate}
+use lib.ListN.{length-set, length-replicate}
 use Rattle.terms.specs.declared.Instance.{Instance}
-use Rattle.terms.specs.declared.Place.the-variants.{At}
 use Rattle.terms.specs.declared.Round.{Round}
 use Rattle.terms.specs.declared.Value.{Value}
 use Rattle.terms.specs.declared.Verdict.the-variants.{ToLeader, ToLearners}

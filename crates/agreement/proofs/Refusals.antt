@@ -27,7 +27,8 @@ use Rattle.wire.proofs.Laws.{RefusedBy, reader-refuses}
 use Rattle.player.specs.Step.{Outcome, Ruling, refused, sends, counts, Player, afterReading, afterPlacing, ruled, act, step}
 use Rattle.quorum.specs.declared.Settings.{Settings}
 use Rattle.quorum.specs.Settings.{allowed}
-use Rattle.primary.specs.declared.Primary.{Primary}
+use Rattle.sequence.specs.declared.Primary.{Primary}
+use Rattle.sequence.specs.Sequence as sequences
 use Rattle.primary.specs.Primary as primaries
 use Rattle.primary.proofs.Laws.{lent-is-the-record}
 use Rattle.ballot.specs.declared.Cell as acceptorCells
@@ -97,8 +98,8 @@ eight N i = placed-by Neither7Nor17 N i (neither 8 refl refl)
 
 -- ---- the rules, at a possible cell
 
-primary-rules : (N : ℕ) (c : Primary) (m : Message) → primaries.possible N c ≡ true → Rules (primaries.rule N c m)
-unfolding primaries.rule
+primary-rules : (N : ℕ) (c : Primary) (m : Message) → sequences.possible N c ≡ true → Rules (sequences.rule N c m)
+unfolding sequences.rule
 primary-rules N c m fine =
     request-elim Rules _ _ m (λ _ _ _. passing Rules _ _ fine (need-elim Rules _ _ _ (neither 12 refl refl) λ _. neither 101 refl refl)) (neither 6 refl refl)
 
@@ -235,14 +236,14 @@ module _ {s : Settings} {w : Boxes} (ok : allowed s ≡ true) (tidy : Tidy s w) 
           (start-rules (s .acceptors) own (backups.cellAt (w .backup own) index) i floor v (tidy .backups own .cells index (placed-index N i index stands .1)))
 
   pub never-by-7-or-17 : NeverBy7Or17 s w
-  unfolding primaries.primaryStep acceptors.acceptorStep acceptors.acceptor ballots.place backups.backupStep backups.backup learnerStep learner
+  unfolding sequences.primaryStep acceptors.acceptorStep acceptors.acceptor ballots.place backups.backupStep backups.backup learnerStep learner
   never-by-7-or-17 = record {
     primary = λ p.
         let held = tidy .primary in
         subst (λ (o : Outcome (List ℕ)). Neither7Nor17 (o .verdict)) (sym (ap (primaries.lentStep s p) (held .is) ∙ lent-is-the-record s p (held .next)))
-        (step-well p (primaries.thePrimary (held .next)) (primaries.primary s) ok
+        (step-well p (sequences.thePrimary (held .next)) (sequences.primary s) ok
         (λ m. request-elim (PlacedBy Neither7Nor17) _ _ m (λ _ _ _. tt) (neither 6 refl refl))
-        (λ m _ _. primary-rules N (primaries.thePrimary (held .next)) m (held .possible)));
+        (λ m _ _. primary-rules N (sequences.thePrimary (held .next)) m (held .possible)));
     acceptors = λ own p known.
         let t = w .acceptor own in
         step-well p t (acceptors.acceptor s own) (acceptor-allowed s own t ok known (tidy .acceptors own .sized))

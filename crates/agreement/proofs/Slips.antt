@@ -19,6 +19,7 @@ use Rattle.player.specs.Step.{afterReading, afterPlacing, ruled, act, step}
 use Rattle.quorum.specs.Settings.{acceptorsAllowed, instancesAllowed, allowed}
 use Rattle.quorum.specs.Quorum.{majority, bit, hasMember, withMember, within, reaches}
 use Rattle.quorum.specs.Voters.{newest, older}
+use Rattle.sequence.specs.Sequence as sequences
 use Rattle.primary.specs.Primary as primaries
 use Rattle.ballot.specs.Ballot as ballots
 use Rattle.acceptor.specs.Acceptor as acceptors
@@ -37,7 +38,7 @@ pub slips : Slips
 unfolding ones numberAt if_then_else_ need_or_then_ ownerOf ownedOr0 ownedNot0 rank atMost requestRow prepareRow promiseRow proposeRow voteRow tableRow keepsTable isVoteBy
     messageOf fieldsOf whenRequest whenPrepare whenPromise whenPropose whenVote fieldsIn readPacket packetWith packetOf placed afterReading afterPlacing ruled act step saysSend
     acceptorsAllowed instancesAllowed allowed majority bit hasMember withMember within reaches put sameBytes wasSent plays played
-    primaries.possible primaries.rule primaries.primaryStep primaries.lentStep
+    sequences.possible sequences.rule sequences.primaryStep primaries.lentStep
     ballots.possible ballots.obeying ballots.rule ballots.place acceptors.acceptorAllowed acceptors.acceptor acceptors.acceptorStep
     takeovers.isFresh takeovers.phaseFits takeovers.isStarted takeovers.possible takeovers.nextRound takeovers.start takeovers.counting takeovers.chosen takeovers.whenMajority takeovers.promise
     takeovers.rule takeovers.ownAllowed backups.sizesAllowed backups.backupAllowed backups.backup backups.backupStep backups.backupStart

@@ -14,9 +14,10 @@ use Rattle.player.specs.Step.{Outcome, Ruling, refused, sends, counts, Player, 
 use Rattle.player.proofs.Steps.{step-elim}
 use Rattle.quorum.specs.declared.Settings.{Settings}
 use Rattle.quorum.specs.Voters.{Mem}
+use Rattle.sequence.specs.Sequence as sequences
 use Rattle.primary.specs.Primary as primaries
 use Rattle.primary.proofs.Laws.{lent-is-the-record}
-use Rattle.primary.proofs.Promises as primary
+use Rattle.sequence.proofs.Promises as primary
 use Rattle.ballot.specs.Ballot as ballots
 use Rattle.ballot.proofs.Laws as ballot
 use Rattle.acceptor.specs.Acceptor as acceptors
@@ -48,7 +49,7 @@ pub record TidyPrimary (N : ℕ) (held : List ℕ) : Type 0 where
   pub next : ℕ
   pub is : held ≡ next ∷ []
   pub fits : next < 2 ^ 32
-  pub possible : primaries.possible N (primaries.thePrimary next) ≡ true
+  pub possible : sequences.possible N (sequences.thePrimary next) ≡ true
 
 -- All boxes.
 pub record Tidy (s : Settings) (w : Boxes) : Type 0 where
@@ -109,14 +110,14 @@ module _ {s : Settings} {w : Boxes} (tidy : Tidy s w) where
   handed-bytes (run.Handed.copy by there) = tidy .bytes _ there
 
   pub call-tidy : {u : Boxes} → Call s w u → Tidy s u
-  unfolding primaries.primaryStep acceptors.acceptorStep backups.backupStep learnerStep
+  unfolding sequences.primaryStep acceptors.acceptorStep backups.backupStep learnerStep
   call-tidy (run.Call.primary-steps p h) =
       let before = tidy .primary in
-      let held = primaries.thePrimary (before .next) in
+      let held = sequences.thePrimary (before .next) in
       let steps = ap (primaries.lentStep s p) (before .is) ∙ lent-is-the-record s p (before .next) in
       record {
         primary = record {
-          next = primaries.primaryStep s p held .tables .next .0;
+          next = sequences.primaryStep s p held .tables .next .0;
           is = ap (λ (o : Outcome (List ℕ)). o .tables) steps;
           fits = primary.primary-fitting-stays s p held (handed-bytes h) (before .fits);
           possible = primary.primary-possible-stays s p held 0 (before .possible);
@@ -125,7 +126,7 @@ module _ {s : Settings} {w : Boxes} (tidy : Tidy s w) where
         backups = tidy .backups;
         learners = tidy .learners;
         bytes = sending-all (λ x. Bytes (x .packet)) _ (primaries.lentStep s p (w .primary)) (w .packets)
-            (λ _. rw steps (step-bytes p held (handed-bytes h) (primaries.primary s))) (tidy .bytes);
+            (λ _. rw steps (step-bytes p held (handed-bytes h) (sequences.primary s))) (tidy .bytes);
       }
   call-tidy (run.Call.acceptor-steps own p h) =
       let t = w .acceptor own in

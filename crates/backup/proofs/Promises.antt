@@ -13,7 +13,7 @@ use Rattle.terms.specs.declared.Place.the-variants.{At, Nowhere}
 use Rattle.terms.specs.declared.Round.{Round}
 use Rattle.terms.specs.declared.Value.{Value}
 use Rattle.terms.specs.declared.Verdict.the-variants.{ToAcceptors, Hold}
-use Rattle.terms.specs.Rounds.{theRound, ownerOf}
+use Rattle.terms.specs.Rounds.{theRound, none, ownerOf}
 use Rattle.terms.specs.Places.{placed}
 use Rattle.terms.specs.Verdict.{verdictNumber, isVerdict, saysSend}
 use Rattle.terms.proofs.Columns.{number-there, number-apart, round-there, round-apart, value-there, value-apart, fresh-number, fresh-value, below-set, below-value, below-fresh}
@@ -59,14 +59,14 @@ cell-apart t index other c differ =
 pub fresh-cells : (N index : ℕ) → index < N → cellAt (freshTables N) index ≡ freshCell
 fresh-cells N index inside =
     same-cell (ap theRound (fresh-number N 0 index inside)) (fresh-number N idle index inside) (fresh-number N 0 index inside)
-    (ap theRound (fresh-number N 4294967295 index inside)) (fresh-value N index inside) (fresh-value N index inside)
+    (ap theRound (fresh-number N (none .0) index inside)) (fresh-value N index inside) (fresh-value N index inside)
 
 pub fresh-sized : (N : ℕ) → Sized N (freshTables N)
 fresh-sized N = record {
   of-rounds = length-replicate N 0;
   of-phases = length-replicate N 0;
   of-sets = length-replicate N 0;
-  of-best-vote-rounds = length-replicate N 4294967295;
+  of-best-vote-rounds = length-replicate N (none .0);
   of-best-values = length-replicate (2 * N) 0;
   of-own-values = length-replicate (2 * N) 0;
 }
@@ -100,7 +100,7 @@ fresh-fitting N = record {
   fitting-rounds = below-fresh (2 ^ 32) N 0 (lit< tt);
   fitting-phases = below-fresh (2 ^ 8) N 0 (lit< tt);
   fitting-sets = below-fresh (2 ^ 8) N 0 (lit< tt);
-  fitting-best-vote-rounds = below-fresh (2 ^ 32) N 4294967295 (lit< tt);
+  fitting-best-vote-rounds = below-fresh (2 ^ 32) N (none .0) (lit< tt);
   fitting-best-values = below-fresh (2 ^ 64) (2 * N) 0 (lit< tt);
   fitting-own-values = below-fresh (2 ^ 64) (2 * N) 0 (lit< tt);
 }

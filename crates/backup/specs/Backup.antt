@@ -10,6 +10,7 @@ use Rattle.terms.specs.declared.Instance.{Instance}
 use Rattle.terms.specs.declared.Place.the-variants.{Nowhere}
 use Rattle.terms.specs.declared.Value.{Value}
 use Rattle.terms.specs.Ladder.{need_or_then_}
+use Rattle.terms.specs.Rounds.{none}
 use Rattle.terms.specs.Places.{placed}
 use Rattle.terms.specs.Columns.{roundAt, withRound, valueAt, withValue, Below}
 use Rattle.messages.specs.Message.{whenPromise}
@@ -32,7 +33,7 @@ tables rounds phases sets bestVoteRounds bestValues ownValues =
     record { rounds = rounds; phases = phases; sets = sets; bestVoteRounds = bestVoteRounds; bestValues = bestValues; ownValues = ownValues }
 
 abbrev pub freshTables : (N : ℕ) → Tables
-freshTables N = tables (replicate N 0) (replicate N idle) (replicate N 0) (replicate N 4294967295) (replicate (2 * N) 0) (replicate (2 * N) 0)
+freshTables N = tables (replicate N 0) (replicate N idle) (replicate N 0) (replicate N (none .0)) (replicate (2 * N) 0) (replicate (2 * N) 0)
 
 abbrev pub cellAt : Tables → (index : ℕ) → Cell
 cellAt t index =

@@ -7,7 +7,6 @@ use mathlib.Core.List.{List, [], _∷_, _++_, append-assoc, append-nil}
 use native.Mathlib.Omega.{arith}
 use native.Mathlib.Numerals.{add-one}
 use lib.ListN.{length, length-append}
-use lib.Dec.{eqb}
 use borrow.Author.Tests.{not-true, not-false, ne-eqb, eq-eqb}
 use Rattle.numbers.specs.BigEndian.{toBytes, withNumberAt}
 use Rattle.numbers.specs.Fronts.{withFront}

@@ -3,7 +3,7 @@
 -- Assumes nothing.
 use Prim.Native.Nat.{ℕ, _<_}
 use mathlib.Core.Path.{_≡_, refl, sym, ap, _∙_, subst}
-use mathlib.Core.Bool.{true, false, false≢true}
+use mathlib.Core.Bool.{true, false≢true}
 use mathlib.Core.List.{List, [], _∷_}
 use native.Mathlib.Decide.{ℕ-discrete}
 use native.Mathlib.Omega.{arith}
@@ -14,7 +14,6 @@ use Rattle.terms.specs.Verdict.{verdictNumber}
 use Rattle.terms.proofs.Ladder.{if-elim}
 use Rattle.terms.proofs.Places.{PlacedBy, placed-index, placed-by}
 use Rattle.messages.specs.declared.Message.{Message}
-use Rattle.messages.specs.declared.Message.the-variants.{Vote}
 use Rattle.messages.specs.Message.{fieldsOf, whenVote}
 use Rattle.messages.specs.Table.{keepsTable}
 use Rattle.messages.proofs.Eliminators.{vote-elim}

@@ -2,7 +2,6 @@
 -- Assumes nothing.
 use mathlib.Core.Bool.{Bool, true, false, not, _&&_, _||_}
 use lib.Dec.{eqb, leb}
-use Rattle.terms.specs.declared.Round.{Round}
 use Rattle.terms.specs.Ladder.{if_then_else_}
 use Rattle.terms.specs.Rounds.{isNone, nobody, ownerOf, ownedOr0, ownedNot0, atMost, sameRound}
 use Rattle.terms.specs.Values.{isNull}

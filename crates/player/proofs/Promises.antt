@@ -5,7 +5,6 @@ use mathlib.Core.Path.{_≡_, refl, sym, ap, _∙_, subst}
 use mathlib.Core.Bool.{Bool, true, false, false≢true}
 use mathlib.Core.List.{List}
 use native.Mathlib.Decide.{ℕ-discrete}
-use Rattle.terms.specs.declared.Place.{Place}
 use Rattle.terms.specs.declared.Place.the-variants.{At}
 use Rattle.terms.specs.declared.Verdict.{Verdict}
 use Rattle.terms.specs.declared.Verdict.the-variants.{ToAcceptors, ToLeader, ToLearners, Hold, Decided, Done, NotYet, NoHole}
@@ -14,7 +13,7 @@ use Rattle.terms.proofs.Places.{PlacedBy}
 use Rattle.messages.specs.declared.Message.{Message}
 use Rattle.messages.specs.Table.{keepsTable}
 use Rattle.messages.specs.Message.{fieldsOf}
-use Rattle.wire.specs.declared.Reading.the-variants.{Read, Refused}
+use Rattle.wire.specs.declared.Reading.the-variants.{Read}
 use Rattle.wire.specs.Packet.{Kept, readPacket, packetOf}
 use Rattle.wire.proofs.Laws.{Writable, RefusedBy, read-message, read-writable, written-reads}
 use Rattle.wire.proofs.RoundTrip.{read-kept}

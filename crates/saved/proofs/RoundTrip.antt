@@ -8,7 +8,7 @@ use mathlib.Core.List.{List, [], _∷_, _++_, append-assoc}
 use mathlib.Core.Logic.{_↔_}
 use native.Mathlib.Omega.{arith}
 use lib.Dec.{eqb}
-use lib.ListN.{length, getD, take, drop, replicate, length-append}
+use lib.ListN.{length, getD, take, replicate, length-append}
 use lib.Seq.{take-at, drop-append-seam, getD-append-add}
 use borrow.Author.Tests.{eqb-true, eq-eqb}
 use Rattle.numbers.specs.BigEndian.{bigEndian, toBytes, bytesAt, numberAt, Bytes}

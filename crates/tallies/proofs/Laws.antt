@@ -7,7 +7,7 @@ use native.Mathlib.Omega.{arith}
 use lib.Dec.{eqb, lit<}
 use lib.ListN.{length, length-set, length-replicate}
 use borrow.Author.Tests.{eqb-true}
-use Rattle.terms.specs.Rounds.{theRound}
+use Rattle.terms.specs.Rounds.{theRound, none}
 use Rattle.terms.proofs.Columns.{number-there, number-apart, round-there, round-apart, value-there, value-apart, fresh-number, fresh-value, below-set, below-value, below-fresh}
 use Rattle.terms.proofs.Ladder.{both-true}
 use Rattle.quorum.specs.declared.Settings.{Settings}
@@ -56,14 +56,14 @@ cell-apart t index other c differ =
 
 pub fresh-cells : (N index : ℕ) → index < N → cellAt (freshTables N) index ≡ freshTally
 fresh-cells N index inside =
-    same-tally (ap theRound (fresh-number N 4294967295 index inside)) (fresh-number N 0 index inside) (fresh-value N index inside)
+    same-tally (ap theRound (fresh-number N (none .0) index inside)) (fresh-number N 0 index inside) (fresh-value N index inside)
 
 pub fresh-sized : (N : ℕ) → Sized N (freshTables N)
-fresh-sized N = record { of-rounds = length-replicate N 4294967295; of-sets = length-replicate N 0; of-values = length-replicate (2 * N) 0 }
+fresh-sized N = record { of-rounds = length-replicate N (none .0); of-sets = length-replicate N 0; of-values = length-replicate (2 * N) 0 }
 
 pub fresh-fitting : (N : ℕ) → Fitting (freshTables N)
 fresh-fitting N = record {
-  fitting-rounds = below-fresh (2 ^ 32) N 4294967295 (lit< tt);
+  fitting-rounds = below-fresh (2 ^ 32) N (none .0) (lit< tt);
   fitting-sets = below-fresh (2 ^ 8) N 0 (lit< tt);
   fitting-values = below-fresh (2 ^ 64) (2 * N) 0 (lit< tt);
 }

@@ -6,6 +6,7 @@ use mathlib.Core.Bool.{Bool, true, _&&_}
 use mathlib.Core.List.{List, [], _∷_}
 use lib.Dec.{eqb}
 use lib.ListN.{length, getD, set, replicate}
+use Rattle.terms.specs.Rounds.{none}
 use Rattle.terms.specs.Columns.{roundAt, withRound, valueAt, withValue, Below}
 use Rattle.quorum.specs.declared.Settings.{Settings}
 use Rattle.quorum.specs.Settings.{allowed}
@@ -21,7 +22,7 @@ abbrev pub tables : (rounds sets values : List ℕ) → Tables
 tables rounds sets values = record { rounds = rounds; sets = sets; values = values }
 
 abbrev pub freshTables : (N : ℕ) → Tables
-freshTables N = tables (replicate N 4294967295) (replicate N 0) (replicate (2 * N) 0)
+freshTables N = tables (replicate N (none .0)) (replicate N 0) (replicate (2 * N) 0)
 
 abbrev pub cellAt : Tables → (index : ℕ) → Tally
 cellAt t index = record { round = roundAt (t .rounds) index; set = getD (t .sets) index 0; value = valueAt (t .values) index }

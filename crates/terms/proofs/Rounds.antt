@@ -5,7 +5,7 @@ use mathlib.Core.Path.{_≡_, refl, sym, ap, _∙_}
 use mathlib.Core.Bool.{true, false, false≢true}
 use native.Mathlib.Omega.{arith}
 use native.Mathlib.Nat.{mod-eq-of-lt}
-use lib.Dec.{eqb, leb}
+use lib.Dec.{leb}
 use borrow.Author.Tests.{eqb-true, eqb-false, ne-eqb, le-leb, leb-true}
 use Rattle.terms.specs.declared.Round.{Round}
 use Rattle.terms.specs.Ladder.{if_then_else_}

@@ -41,9 +41,9 @@ use Rattle.quorum.proofs.size.Reads as size
 use Rattle.quorum.proofs.is_within.Reads as is-within
 use Rattle.quorum.proofs.reaches.Reads as reaches
 use Rattle.quorum.proofs.reaches_majority.Reads as reaches-majority
-use Rattle.primary.specs.Primary.{primaryStep}
-use Rattle.primary.proofs.fresh_primary.Reads as fresh-primary
-use Rattle.primary.proofs.step.Reads as primary-by-value
+use Rattle.sequence.specs.Sequence.{primaryStep}
+use Rattle.sequence.proofs.fresh_primary.Reads as fresh-primary
+use Rattle.sequence.proofs.step.Reads as primary-by-value
 use Rattle.primary.proofs.myrthakel_primary_step.Reads as primary-step
 use Rattle.primary.proofs.myrthakel_primary_request as primary-request
 use Rattle.ballot.proofs.fresh_cell.Reads as fresh-ballot-cell
@@ -149,9 +149,10 @@ pub record EveryCall : Type 0 where
   pub of-is-within : OneAnswer is-within.Learnt
   pub of-reaches : OneAnswer reaches.Learnt
   pub of-reaches-majority : OneAnswer reaches-majority.Learnt
-  -- primary
+  -- sequence
   pub of-fresh-primary : OneAnswer fresh-primary.Learnt
   pub of-primary-by-value : OneAnswer primary-by-value.Learnt × OneContent primary-by-value.Learnt (λ κs exit. held-1 (exit .1 .1 .1))
+  -- primary
   pub of-primary-step : OneAnswer primary-step.Learnt × OneContent primary-step.Learnt (λ κs exit. held-2 (exit .1 .1))
   pub of-primary-request : OneAnswer requested × OneContent requested (λ κs exit. held-2 (exit .1 .1))
   -- ballot

@@ -20,9 +20,10 @@ use Rattle.wire.proofs.Laws.{Writable, read-writable}
 use Rattle.player.specs.Step.{unchanged, ruled}
 use Rattle.quorum.specs.declared.Settings.{Settings}
 use Rattle.quorum.specs.Voters.{newest, older}
-use Rattle.primary.specs.Primary.{thePrimary, primary, primaryStep, lent, lentStep}
+use Rattle.sequence.specs.Sequence.{thePrimary, primary, primaryStep}
+use Rattle.primary.specs.Primary.{lent, lentStep}
 use Rattle.primary.proofs.Laws.{lent-is-the-record}
-use Rattle.primary.proofs.Promises.{rule-elim, proposed-writable}
+use Rattle.sequence.proofs.Promises.{rule-elim, proposed-writable}
 use Rattle.agreement.specs.Run.{the-primary, sent, Boxes, put, afterPrimary, Handed}
 use Rattle.agreement.proofs.Basics.{put-elim, put-same}
 use Rattle.agreement.proofs.Slot.{propose, Unopened}

@@ -1,7 +1,7 @@
 -- `numbers::write_u32` meets its contract: inside the bytes the number is stored, swapped twice, and outside them nothing is.
 -- Assumes nothing.
 use denote.Ref.{now}
-use mathlib.Core.Path.{ap, _∙_}
+use mathlib.Core.Path.{_∙_}
 use native.Mathlib.Omega.{arith}
 use borrow.Author.Needs.{needs}
 use Rattle.numbers.proofs.Swapped.{stored-swapped-twice}

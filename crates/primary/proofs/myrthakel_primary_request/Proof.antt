@@ -44,17 +44,17 @@ use denote.Triple.Walked.{says, Stays, stay-ref, stay-none, gave-slice, walkOf, 
 use denote.Exit.{yes}
 use Rattle.player.specs.Step.{outcome}
 use Rattle.quorum.specs.Settings.{settings}
-use Rattle.primary.specs.declared.Primary.{Primary}
-use Rattle.primary.specs.declared.Stepped.{Stepped}
-use Rattle.primary.specs.Primary.{primaryStep}
-use Rattle.primary.proofs.Primary as P
-use Rattle.primary.proofs.Primary.Laws as P′
-use Rattle.primary.proofs.Stepped as S
-use Rattle.primary.proofs.Stepped.Laws as S′
-use Rattle.primary.proofs.step as step
-use Rattle.primary.proofs.step.Symbol as step-def
-use Rattle.primary.proofs.step.Symbol.{name as #primary·step}
-use Rattle.primary.proofs.step.Met as step-thm
+use Rattle.sequence.specs.declared.Primary.{Primary}
+use Rattle.sequence.specs.declared.Stepped.{Stepped}
+use Rattle.sequence.specs.Sequence.{primaryStep}
+use Rattle.sequence.proofs.Primary as P
+use Rattle.sequence.proofs.Primary.Laws as P′
+use Rattle.sequence.proofs.Stepped as S
+use Rattle.sequence.proofs.Stepped.Laws as S′
+use Rattle.sequence.proofs.step as step
+use Rattle.sequence.proofs.step.Symbol as step-def
+use Rattle.sequence.proofs.step.Symbol.{name as #sequence·step}
+use Rattle.sequence.proofs.step.Met as step-thm
 use Rattle.primary.proofs.myrthakel_primary_request.Key.{name as #primary·myrthakel-primary-request}
 use Rattle.primary.proofs.myrthakel_primary_request as request
 use Rattle.primary.proofs.myrthakel_primary_request.Statement as stated
@@ -153,7 +153,7 @@ module _ {M : Type 1} (𝓤 : URA M) (H : Heap 𝓤) (A : Atoms 𝓤) (W : Given
         owned ! u32 _ makes-number instances _ (refl, instances-fits) $ fjoin ! $ owned ! u32 _ makes-number acceptors _ (refl, acceptors-fits) $ fjoin ! $
         owned ! u32 _ makes-number (r .answer) _ (refl, fits) $ move ! (1 ∷ 0 ∷ []) $ done !
 
-    module _ (C : Calls 𝓤 H) (Λ : Loops 𝓤 H) (fm : FmC 𝓤 H (W .laws) C) (known : Triple 𝓤 (C #primary·step) StepC) where
+    module _ (C : Calls 𝓤 H) (Λ : Loops 𝓤 H) (fm : FmC 𝓤 H (W .laws) C) (known : Triple 𝓤 (C #sequence·step) StepC) where
       walk : ent 𝓤 (onEntry 𝓤 H A request.signature (κ, (κ′, tt)) (q, (q′, tt)) args vals)
           (WpFn 𝓤 H C Λ code.function (vint w32 acceptors ∷ vint w32 instances ∷ slice ∷ address ∷ []) (RequestC .post bound))
       walk =
@@ -210,7 +210,7 @@ module _ {M : Type 1} (𝓤 : URA M) (H : Heap 𝓤) (A : Atoms 𝓤) (W : Given
       unchanged : Goes 𝓤 H A W 2 (plain (λ _. u32)) yes (stay-none (λ _. u32) yes)
       unchanged = goes-none 𝓤 H A W 2 (λ _. u32) yes (λ κs x f. refl)
 
-  meets : (𝓣 : Tables 𝓤 H) → Triple 𝓤 (𝓣 .C #primary·step) StepC
+  meets : (𝓣 : Tables 𝓤 H) → Triple 𝓤 (𝓣 .C #sequence·step) StepC
       → Meets 𝓤 H A request.signature (WpFn 𝓤 H (𝓣 .C) (𝓣 .Λ) code.function) (request.spec 𝓤 H A at-mem run)
   meets 𝓣 known =
       walk-meets 𝓤 H A request.ended stayed W all-go clauses (WpFn 𝓤 H (𝓣 .C) (𝓣 .Λ) code.function) (WpFn-mono 𝓤 H (W .laws) 𝓣 code.function)
@@ -226,4 +226,4 @@ myrthakel-primary-request-spec 𝓤 H 𝓜 𝓖 𝓡 =
     entered 𝓤 H (tripleOf 𝓤 H (𝓖 .A) request.signature (request.spec 𝓤 H (𝓖 .A) (𝓜 .mem) (𝓡 .run)))
     (tables 𝓤 H 𝓜 𝓡 code.env .C) (tables 𝓤 H 𝓜 𝓡 code.env .Λ) #primary·myrthakel-primary-request code.function (code.unfolded 𝓤 H 𝓜 𝓡)
     (meets 𝓤 H (𝓖 .A) (givenOf 𝓤 H 𝓜 𝓖) (𝓜 .mem) (𝓡 .run) (tablesOf 𝓤 H 𝓜 (tables 𝓤 H 𝓜 𝓡 code.env))
-    (cited 𝓤 H (StepC 𝓤 H (𝓖 .A) (givenOf 𝓤 H 𝓜 𝓖) (𝓜 .mem) (𝓡 .run)) 𝓜 𝓡 code.env #primary·step step-def.routine code.calls-primary·step (step-thm.met 𝓤 H 𝓜 𝓖 𝓡)))
+    (cited 𝓤 H (StepC 𝓤 H (𝓖 .A) (givenOf 𝓤 H 𝓜 𝓖) (𝓜 .mem) (𝓡 .run)) 𝓜 𝓡 code.env #sequence·step step-def.routine code.calls-sequence·step (step-thm.met 𝓤 H 𝓜 𝓖 𝓡)))

@@ -1,10 +1,10 @@
--- `primary::step` meets its contract: each return is a way out of `primaryStep`.
+-- `sequence::step` meets its contract: each return is a way out of `primaryStep`.
 -- Assumes nothing.
 use native.Mathlib.Omega.{arith}
-use Rattle.primary.proofs.Ways.{refused-7, malformed, refused-6, refused-17, refused-12, proposed}
+use Rattle.sequence.proofs.Ways.{refused-7, malformed, refused-6, refused-17, refused-12, proposed}
 use borrow.Author.Needs.{needs}
-use Rattle.primary.proofs.step.Statement.{statement}
-use Rattle.primary.proofs.step.Tie as tie
+use Rattle.sequence.proofs.step.Statement.{statement}
+use Rattle.sequence.proofs.step.Tie as tie
 
 settings-allowed-requires : tie.Need-settings-allowed-requires
 settings-allowed-requires c κs = search needs
