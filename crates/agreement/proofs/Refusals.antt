@@ -35,7 +35,8 @@ use Rattle.ballot.specs.declared.Cell as acceptorCells
 use Rattle.ballot.specs.Ballot as ballots
 use Rattle.ballot.proofs.Laws as ballot
 use Rattle.acceptor.specs.Acceptor as acceptors
-use Rattle.takeover.specs.declared.Cell as backupCells
+use Rattle.bid.specs.declared.Cell as backupCells
+use Rattle.bid.specs.Bid as bids
 use Rattle.takeover.specs.Takeover as takeovers
 use Rattle.backup.specs.Backup as backups
 use Rattle.backup.proofs.Promises as backup
@@ -109,7 +110,7 @@ acceptor-rules own c m fine =
     prepare-elim Rules _ _ m (λ _ _ _. passing Rules _ _ fine (need-elim Rules _ _ _ (neither 10 refl refl) λ _. neither 102 refl refl))
     (propose-elim Rules _ _ m (λ _ _ _ _. passing Rules _ _ fine (need-elim Rules _ _ _ (neither 10 refl refl) λ _. neither 103 refl refl)) (neither 6 refl refl))
 
-backup-rules : (M own : ℕ) (c : backupCells.Cell) (m : Message) → takeovers.possible M own c ≡ true → Rules (takeovers.rule M own c m)
+backup-rules : (M own : ℕ) (c : backupCells.Cell) (m : Message) → bids.possible M own c ≡ true → Rules (takeovers.rule M own c m)
 unfolding takeovers.rule takeovers.promise takeovers.whenMajority
 backup-rules M own c m fine =
     promise-elim Rules _ _ m
@@ -121,7 +122,7 @@ backup-rules M own c m fine =
     if-elim Rules _ _ _ (λ _. neither 101 refl refl) (λ _. neither 104 refl refl)))
     (neither 6 refl refl)
 
-start-rules : (M own : ℕ) (c : backupCells.Cell) (i : Instance) (floor : ℕ) (v : Value) → takeovers.possible M own c ≡ true → Rules (takeovers.start M own c i floor v)
+start-rules : (M own : ℕ) (c : backupCells.Cell) (i : Instance) (floor : ℕ) (v : Value) → bids.possible M own c ≡ true → Rules (takeovers.start M own c i floor v)
 unfolding takeovers.start
 start-rules M own c i floor v fine = passing Rules _ _ fine (need-elim Rules _ _ _ (neither 16 refl refl) λ _. neither 101 refl refl)
 
@@ -150,7 +151,7 @@ acceptor-allowed s own t ok known sized =
     (eq-eqb _ _ (sized .of-values))
 
 backup-allowed : (s : Settings) (own : ℕ) (t : backups.Tables) → allowed s ≡ true → 1 ≤ own → own ≤ 3 → backups.Sized (s .instances) t → backups.backupAllowed s own t ≡ true
-unfolding backups.backupAllowed takeovers.ownAllowed backups.sizesAllowed
+unfolding backups.backupAllowed bids.ownAllowed backups.sizesAllowed
 backup-allowed s own t ok least most sized =
     and-true (and-true (and-true ok (le-leb 1 own least)) (le-leb own 3 most))
     (and-true (and-true (and-true (and-true (and-true (eq-eqb _ _ (sized .of-rounds)) (eq-eqb _ _ (sized .of-phases))) (eq-eqb _ _ (sized .of-sets)))

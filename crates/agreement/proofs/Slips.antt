@@ -23,6 +23,7 @@ use Rattle.sequence.specs.Sequence as sequences
 use Rattle.primary.specs.Primary as primaries
 use Rattle.ballot.specs.Ballot as ballots
 use Rattle.acceptor.specs.Acceptor as acceptors
+use Rattle.bid.specs.Bid as bids
 use Rattle.takeover.specs.Takeover as takeovers
 use Rattle.backup.specs.Backup as backups
 use Rattle.tally.specs.Tally as tallies
@@ -40,8 +41,8 @@ unfolding ones numberAt if_then_else_ need_or_then_ ownerOf ownedOr0 ownedNot0 r
     acceptorsAllowed instancesAllowed allowed majority bit hasMember withMember within reaches put sameBytes wasSent plays played
     sequences.possible sequences.rule sequences.primaryStep primaries.lentStep
     ballots.possible ballots.obeying ballots.rule ballots.place acceptors.acceptorAllowed acceptors.acceptor acceptors.acceptorStep
-    takeovers.isFresh takeovers.phaseFits takeovers.isStarted takeovers.possible takeovers.nextRound takeovers.start takeovers.counting takeovers.chosen takeovers.whenMajority takeovers.promise
-    takeovers.rule takeovers.ownAllowed backups.sizesAllowed backups.backupAllowed backups.backup backups.backupStep backups.backupStart
+    bids.isFresh bids.phaseFits bids.isStarted bids.possible takeovers.nextRound takeovers.start takeovers.counting takeovers.chosen takeovers.whenMajority takeovers.promise
+    takeovers.rule bids.ownAllowed backups.sizesAllowed backups.backupAllowed backups.backup backups.backupStep backups.backupStart
     tallies.isDecided tallies.isFresh tallies.isHeard tallies.possible whenDecided added vote learners.sizesAllowed learner.rule learner.learner learner.learnerStep learner.told learner.answerAt learner.answer
 slips = record {
   promise-forgotten = record {

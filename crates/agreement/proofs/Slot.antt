@@ -19,8 +19,8 @@ use Rattle.quorum.specs.Quorum.{Member, Quorum}
 use Rattle.quorum.specs.Voters.{Mem}
 use Rattle.ballot.specs.declared.Cell as acceptors
 use Rattle.ballot.specs.Ballot as acceptor
-use Rattle.takeover.specs.declared.Cell as backups
-use Rattle.takeover.specs.Takeover as backup
+use Rattle.bid.specs.declared.Cell as backups
+use Rattle.bid.specs.Bid as bids
 use Rattle.tally.specs.declared.Tally.{Tally}
 use Rattle.tally.specs.Tally.{freshTally}
 
@@ -58,11 +58,11 @@ pub record Slot : Type 0 where
   pub votes : List Vote
 
 abbrev pub freshSlot : Slot
-freshSlot = record { acceptor = λ _. acceptor.freshCell; backup = λ _. backup.freshCell; learner = λ _. freshTally; promises = []; proposes = []; votes = [] }
+freshSlot = record { acceptor = λ _. acceptor.freshCell; backup = λ _. bids.freshCell; learner = λ _. freshTally; promises = []; proposes = []; votes = [] }
 
 -- In rounds below this one the backup proposes nothing any more.
 abbrev pub spent : backups.Cell → ℕ
-spent c = c .round .0 + (if eqb (c .phase) backup.proposed then 1 else 0)
+spent c = c .round .0 + (if eqb (c .phase) bids.proposed then 1 else 0)
 
 -- A whole majority is past round r, and whoever of it voted in round r voted for v: nothing else was or will be decided there.
 pub record Barred (M : ℕ) (acceptor : ℕ → acceptors.Cell) (votes : List Vote) (r : ℕ) (v : Value) : Type 0 where

@@ -22,7 +22,7 @@ use Rattle.ballot.specs.Ballot as ballots
 use Rattle.ballot.proofs.Laws as ballot
 use Rattle.acceptor.specs.Acceptor as acceptors
 use Rattle.acceptor.proofs.Promises as acceptor
-use Rattle.takeover.specs.Takeover as takeovers
+use Rattle.bid.specs.Bid as bids
 use Rattle.takeover.proofs.Laws as takeover
 use Rattle.backup.specs.Backup as backups
 use Rattle.backup.proofs.Promises as backup
@@ -55,7 +55,7 @@ pub record TidyPrimary (N : ℕ) (held : List ℕ) : Type 0 where
 pub record Tidy (s : Settings) (w : Boxes) : Type 0 where
   pub primary : TidyPrimary (s .instances) (w .primary)
   pub acceptors : (own : ℕ) → TidyTables (s .instances) acceptors.Sized acceptors.Fitting acceptors.cellAt ballots.possible (w .acceptor own)
-  pub backups : (own : ℕ) → TidyTables (s .instances) backups.Sized backups.Fitting backups.cellAt (takeovers.possible (s .acceptors) own) (w .backup own)
+  pub backups : (own : ℕ) → TidyTables (s .instances) backups.Sized backups.Fitting backups.cellAt (bids.possible (s .acceptors) own) (w .backup own)
   pub learners : (which : ℕ) → TidyTables (s .instances) learners.Sized learners.Fitting learners.cellAt (tallies.possible (s .acceptors)) (w .learner which)
   pub bytes : (x : Sent) → Mem x (w .packets) → Bytes (x .packet)
 
@@ -72,7 +72,7 @@ fresh-tidy s =
       backups = λ own. record {
         sized = backup.fresh-sized N;
         fitting = backup.fresh-fitting N;
-        cells = λ i below. ap (takeovers.possible (s .acceptors) own) (backup.fresh-cells N i below) ∙ takeover.fresh-possible (s .acceptors) own;
+        cells = λ i below. ap (bids.possible (s .acceptors) own) (backup.fresh-cells N i below) ∙ takeover.fresh-possible (s .acceptors) own;
       };
       learners = λ _. record {
         sized = learner-tables.fresh-sized N;
@@ -154,7 +154,7 @@ module _ {s : Settings} {w : Boxes} (tidy : Tidy s w) where
         primary = tidy .primary;
         acceptors = tidy .acceptors;
         backups =
-            put-all (λ b u. TidyTables (s .instances) backups.Sized backups.Fitting backups.cellAt (takeovers.possible (s .acceptors) b) u)
+            put-all (λ b u. TidyTables (s .instances) backups.Sized backups.Fitting backups.cellAt (bids.possible (s .acceptors) b) u)
             (record {
               sized = backup.backup-sized-stays s own p t (before .sized);
               fitting = backup.backup-fitting-stays s own p t (handed-bytes h) (before .fitting);
@@ -172,7 +172,7 @@ module _ {s : Settings} {w : Boxes} (tidy : Tidy s w) where
         primary = tidy .primary;
         acceptors = tidy .acceptors;
         backups =
-            put-all (λ b u. TidyTables (s .instances) backups.Sized backups.Fitting backups.cellAt (takeovers.possible (s .acceptors) b) u)
+            put-all (λ b u. TidyTables (s .instances) backups.Sized backups.Fitting backups.cellAt (bids.possible (s .acceptors) b) u)
             (record {
               sized = backup.start-sized-stays s own i floor v buffer t (before .sized);
               fitting =

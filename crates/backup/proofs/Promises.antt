@@ -36,8 +36,9 @@ use Rattle.player.proofs.Promises.{RuledBy, NextCell, refusal-keeps-all, number
 use Rattle.quorum.specs.declared.Settings.{Settings}
 use Rattle.quorum.specs.Quorum.{hasMember}
 use Rattle.takeover.proofs.Next.{next-smallest}
-use Rattle.takeover.specs.declared.Cell.{Cell}
-use Rattle.takeover.specs.Takeover.{idle, asking, freshCell, possible, counting, chosen, whenMajority, rule, started, start, nextRound}
+use Rattle.bid.specs.declared.Cell.{Cell}
+use Rattle.bid.specs.Bid.{idle, asking, freshCell, possible}
+use Rattle.takeover.specs.Takeover.{counting, chosen, whenMajority, rule, started, start, nextRound}
 use Rattle.takeover.proofs.Laws.{same-cell, rule-elim, asking-started, counted, counted-possible, FitsCell, null-fits, counting-fits, closed-fits, chosen-fits, start-rule-elim, started-possible}
 use Rattle.backup.specs.Backup.{Tables, freshTables, cellAt, withCell, backup, backupStep, Sized, Within, backupAllowed, backupStart, Fitting}
 use Rattle.backup.proofs.Ways.{allowed-tables, index-within}

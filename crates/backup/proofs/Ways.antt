@@ -34,10 +34,11 @@ use Rattle.quorum.specs.declared.Settings.{Settings}
 use Rattle.quorum.specs.Settings.{allowed}
 use Rattle.quorum.proofs.Laws as quorums
 use Rattle.quorum.proofs.Laws.{allowed-brings}
-use Rattle.takeover.specs.declared.Cell.{Cell}
+use Rattle.bid.specs.declared.Cell.{Cell}
 use Rattle.takeover.specs.declared.Ruled.{Ruled}
 use Rattle.takeover.specs.declared.Ruled.the-variants as answers
-use Rattle.takeover.specs.Takeover.{start, promise, rule, rulingOf, ownAllowed}
+use Rattle.bid.specs.Bid.{ownAllowed}
+use Rattle.takeover.specs.Takeover.{start, promise, rule, rulingOf}
 use Rattle.backup.specs.Backup.{Tables, cellAt, withCell, sizesAllowed, backupAllowed, backup, backupStep, backupStart, Sized, Within}
 
 -- ---- settings

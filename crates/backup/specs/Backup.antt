@@ -17,8 +17,9 @@ use Rattle.messages.specs.Message.{whenPromise}
 use Rattle.wire.specs.Packet.{packetLength}
 use Rattle.player.specs.Step.{Outcome, unchanged, Player, afterPlacing, ruled, step}
 use Rattle.quorum.specs.declared.Settings.{Settings}
-use Rattle.takeover.specs.declared.Cell.{Cell}
-use Rattle.takeover.specs.Takeover.{idle, cell, ownAllowed, start, rule}
+use Rattle.bid.specs.declared.Cell.{Cell}
+use Rattle.bid.specs.Bid.{idle, cell, ownAllowed}
+use Rattle.takeover.specs.Takeover.{start, rule}
 
 pub record Tables : Type 0 where
   pub rounds : List ℕ

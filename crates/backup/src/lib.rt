@@ -8,9 +8,9 @@ ghost use Rattle.player.specs.Step.{outcome, ruled};
 ghost use Rattle.quorum.specs.Settings.{settings};
 ghost use Rattle.takeover.specs.Takeover.{rulingOf};
 ghost use Rattle.backup.specs.Backup.{tables, cellAt, withCell, sizesAllowed, backupStep, backupStart, Within};
+use bid::Cell;
 use messages::Message;
 use quorum::Settings;
-use takeover::Cell;
 use takeover::Ruled;
 use terms::Instance;
 use terms::Place;
@@ -166,7 +166,7 @@ pub extern "C" fn myrthakel_backup_start(
         acceptors,
         instances,
     };
-    if !(takeover::own_allowed(settings, own)
+    if !(bid::own_allowed(settings, own)
         & sizes_allowed(
             instances,
             rounds.len(),
@@ -239,7 +239,7 @@ pub extern "C" fn myrthakel_backup_step(
         acceptors,
         instances,
     };
-    if !(takeover::own_allowed(settings, own)
+    if !(bid::own_allowed(settings, own)
         & sizes_allowed(
             instances,
             rounds.len(),

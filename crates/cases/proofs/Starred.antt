@@ -15,6 +15,7 @@ use Rattle.quorum.specs.Settings.{acceptorsAllowed, instancesAllowed, allowed}
 use Rattle.quorum.specs.Quorum.{majority, bit, hasMember, withMember, within, reaches}
 use Rattle.ballot.specs.Ballot as ballots
 use Rattle.acceptor.specs.Acceptor as acceptors
+use Rattle.bid.specs.Bid as bids
 use Rattle.takeover.specs.Takeover as takeovers
 use Rattle.backup.specs.Backup as backups
 use Rattle.tally.specs.Tally as tallies
@@ -27,8 +28,8 @@ starred : All cases
 unfolding ones numberAt if_then_else_ need_or_then_ ownerOf ownedOr0 ownedNot0 rank atMost prepareRow promiseRow proposeRow voteRow tableRow keepsTable isVoteBy messageOf
     fieldsOf whenPrepare whenPromise whenPropose whenVote fieldsIn readPacket packetWith packetOf placed afterReading afterPlacing ruled act step acceptorsAllowed instancesAllowed
     allowed majority bit hasMember withMember within reaches ballots.possible ballots.obeying ballots.rule ballots.place acceptors.acceptorAllowed
-    acceptors.acceptor acceptors.acceptorStep takeovers.isFresh takeovers.phaseFits takeovers.isStarted takeovers.possible takeovers.nextRound takeovers.start takeovers.counting
-    takeovers.chosen takeovers.whenMajority takeovers.promise takeovers.rule takeovers.ownAllowed backups.sizesAllowed backups.backupAllowed backups.backup backups.backupStep
+    acceptors.acceptor acceptors.acceptorStep bids.isFresh bids.phaseFits bids.isStarted bids.possible takeovers.nextRound takeovers.start takeovers.counting
+    takeovers.chosen takeovers.whenMajority takeovers.promise takeovers.rule bids.ownAllowed backups.sizesAllowed backups.backupAllowed backups.backup backups.backupStep
     backups.backupStart tallies.isDecided tallies.isFresh tallies.isHeard tallies.possible whenDecided added vote sizesAllowed learners.rule learners.learner
     learners.learnerStep learners.told learners.answerAt learners.answer
 starred =

@@ -20,7 +20,7 @@ use Rattle.player.specs.Step.{Outcome, outcome, unchanged}
 use Rattle.quorum.specs.Settings.{settings}
 use Rattle.ballot.specs.Ballot as ballots
 use Rattle.acceptor.specs.Acceptor as acceptors
-use Rattle.takeover.specs.Takeover as takeovers
+use Rattle.bid.specs.Bid as bids
 use Rattle.backup.specs.Backup as backups
 use Rattle.tally.specs.Tally.{tally}
 use Rattle.tallies.specs.Tables as tallies
@@ -88,10 +88,10 @@ abbrev idle : backups.Tables
 idle = backups.freshTables 8
 
 abbrev asking : (round : ℕ) → Value → (set : ℕ) → backups.Tables
-asking round value set = backups.withCell idle 0 (takeovers.cell (theRound round) takeovers.asking set none null value)
+asking round value set = backups.withCell idle 0 (bids.cell (theRound round) bids.asking set none null value)
 
 abbrev proposed : backups.Tables
-proposed = backups.withCell idle 0 (takeovers.cell (theRound 1) takeovers.proposed 3 (theRound 0) v w)
+proposed = backups.withCell idle 0 (bids.cell (theRound 1) bids.proposed 3 (theRound 0) v w)
 
 -- A start that writes a prepare of this round, and one that is refused.
 abbrev starts : (own : ℕ) → backups.Tables → (floor round : ℕ) → Row

@@ -26,8 +26,9 @@ use Rattle.player.specs.Step.{Ruling, refused, sends}
 use Rattle.player.proofs.Promises.{NextCell}
 use Rattle.quorum.specs.Quorum.{majority, hasMember, withMember, within, size, reachesMajority}
 use Rattle.quorum.proofs.Laws.{reaches-iff, with-member-size, with-member-within, empty-size, empty-within, with-member-fits}
-use Rattle.takeover.specs.declared.Cell.{Cell}
-use Rattle.takeover.specs.Takeover.{idle, asking, proposed, cell, freshCell, isFresh, phaseFits, isStarted, possible, counting, chosen, closed, whenMajority, promise, rule, started, start, nextRound}
+use Rattle.bid.specs.declared.Cell.{Cell}
+use Rattle.bid.specs.Bid.{idle, asking, proposed, cell, freshCell, isFresh, phaseFits, isStarted, possible}
+use Rattle.takeover.specs.Takeover.{counting, chosen, closed, whenMajority, promise, rule, started, start, nextRound}
 
 -- ---- cells
 

@@ -14,8 +14,9 @@ use Rattle.terms.specs.Rounds.{theRound, sameRound}
 use Rattle.messages.specs.declared.Message.the-variants.{Prepare}
 use Rattle.player.specs.Step.{Ruling, refused, sends}
 use Rattle.quorum.specs.Quorum.{hasMember}
-use Rattle.takeover.specs.declared.Cell.{Cell}
-use Rattle.takeover.specs.Takeover.{asking, possible, nextRound, started, start, counting, whenMajority, promise}
+use Rattle.bid.specs.declared.Cell.{Cell}
+use Rattle.bid.specs.Bid.{asking, possible}
+use Rattle.takeover.specs.Takeover.{nextRound, started, start, counting, whenMajority, promise}
 
 -- ---- start
 

@@ -1,91 +1,18 @@
-// A backup's takeover of one instance: what it keeps of it, how it starts, and how promises are counted.
+// A backup's takeover of one instance: how it starts, and how promises are counted.
 ghost use mathlib.Core.Path.{_≡_};
 ghost use Prim.Native.Nat.{max};
-ghost use Rattle.takeover.specs.Takeover.{freshCell, ownAllowed, isFresh, phaseFits, isStarted, possible, nextRound, start, counting, chosen, whenMajority, promise, rulingOf};
+ghost use Rattle.takeover.specs.Takeover.{nextRound, start, counting, chosen, whenMajority, promise, rulingOf};
+use bid::Cell;
 use messages::Message;
-use quorum::Settings;
 use terms::Instance;
 use terms::Round;
 use terms::Value;
-
-// What a backup keeps of one instance. The phase is its number in the lent table; any other number is an impossible cell.
-pub struct Cell {
-    pub round: Round,
-    pub phase: u8,
-    pub set: u8,
-    pub best_vote_round: Round,
-    pub best_value: Value,
-    pub own_value: Value,
-}
 
 // What a start or a promise comes to at a cell.
 pub enum Ruled {
     Sent { cell: Cell, message: Message },
     Held { cell: Cell },
     Refused(u32),
-}
-
-const IDLE: u8 = 0;
-
-const ASKING: u8 = 1;
-
-const PROPOSED: u8 = 2;
-
-pub fn fresh_cell() -> Cell
-    ensures { λ r. ⌜ r ≡ freshCell ⌝ }
-{
-    Cell {
-        round: Round(0),
-        phase: IDLE,
-        set: 0,
-        best_vote_round: Round(terms::NONE),
-        best_value: Value { high: 0, low: 0 },
-        own_value: Value { high: 0, low: 0 },
-    }
-}
-
-// The own number is 1 to 3, whatever M is.
-pub fn own_allowed(settings: Settings, own: u32) -> bool
-    ensures { λ r. ⌜ r ≡ ownAllowed settings own ⌝ }
-{
-    quorum::settings_allowed(settings) & (1 <= own) & (own <= 3)
-}
-
-// ---- possible cells
-
-fn is_fresh(cell: Cell) -> bool
-    ensures { λ r. ⌜ r ≡ isFresh cell ⌝ }
-{
-    (cell.phase == IDLE)
-        & (cell.round.0 == 0)
-        & (cell.set == 0)
-        & terms::is_none(cell.best_vote_round)
-        & terms::is_null(cell.best_value)
-        & terms::is_null(cell.own_value)
-}
-
-fn phase_fits(acceptors: u32, phase: u8, set: u8) -> bool
-    ensures { λ r. ⌜ r ≡ phaseFits acceptors phase set ⌝ }
-{
-    let members = quorum::size(set);
-    let majority = quorum::majority(acceptors);
-    ((phase == ASKING) & (members < majority)) | ((phase == PROPOSED) & (members == majority))
-}
-
-fn is_started(acceptors: u32, own: u16, cell: Cell) -> bool
-    ensures { λ r. ⌜ r ≡ isStarted acceptors own cell ⌝ }
-{
-    (terms::owner(cell.round) == own)
-        & quorum::is_within(acceptors, cell.set)
-        & terms::is_vote_by(cell.round, cell.best_vote_round, cell.best_value)
-        & phase_fits(acceptors, cell.phase, cell.set)
-        & (!(cell.set == 0) | terms::is_none(cell.best_vote_round))
-}
-
-pub fn is_possible(acceptors: u32, own: u16, cell: Cell) -> bool
-    ensures { λ r. ⌜ r ≡ possible acceptors own cell ⌝ }
-{
-    is_fresh(cell) | is_started(acceptors, own, cell)
 }
 
 // ---- start
@@ -109,7 +36,7 @@ pub fn start_cell(
 ) -> Ruled
     ensures { λ r. ⌜ rulingOf r ≡ start acceptors own cell instance floor value ⌝ }
 {
-    if !is_possible(acceptors, own, cell) {
+    if !bid::is_possible(acceptors, own, cell) {
         return Ruled::Refused(17);
     }
     let next = next_round(own, cell.round.0, floor);
@@ -120,7 +47,7 @@ pub fn start_cell(
     Ruled::Sent {
         cell: Cell {
             round,
-            phase: ASKING,
+            phase: bid::ASKING,
             set: 0,
             best_vote_round: Round(terms::NONE),
             best_value: Value { high: 0, low: 0 },
@@ -184,7 +111,7 @@ fn propose_at_majority(acceptors: u32, instance: Instance, cell: Cell) -> Ruled
     Ruled::Sent {
         cell: Cell {
             round,
-            phase: PROPOSED,
+            phase: bid::PROPOSED,
             set: cell.set,
             best_vote_round,
             best_value,
@@ -213,10 +140,10 @@ pub fn take_promise(
     if acceptors <= (sender as u32) {
         return Ruled::Refused(9);
     }
-    if !is_possible(acceptors, own, cell) {
+    if !bid::is_possible(acceptors, own, cell) {
         return Ruled::Refused(17);
     }
-    if !((cell.phase == ASKING) & terms::same_round(round, cell.round)) {
+    if !((cell.phase == bid::ASKING) & terms::same_round(round, cell.round)) {
         return Ruled::Refused(11);
     }
     if quorum::has_member(cell.set, sender) {

@@ -21,7 +21,7 @@ use Rattle.ballot.specs.declared.Cell as ballotCells
 use Rattle.ballot.specs.declared.Ruled as obeying
 use Rattle.ballot.specs.declared.Ruled.the-variants as obeyed
 use Rattle.ballot.specs.Ballot as ballot
-use Rattle.takeover.specs.declared.Cell.{Cell}
+use Rattle.bid.specs.declared.Cell.{Cell}
 use Rattle.takeover.specs.declared.Ruled.{Ruled}
 use Rattle.takeover.specs.declared.Ruled.the-variants as ruled
 use Rattle.takeover.specs.Takeover as takeover
@@ -131,9 +131,9 @@ every-call = record {
   of-ballot-place-of = λ _ _ _ _ _ _. equal;
   of-obey = λ _ _ answer other _ _ p q. one-ballot answer other (p ∙ sym q);
   of-acceptor-step = (λ _ _ _ _ _ _. seen (λ o. o .verdict), λ _ _ _ _ _ _. seen (λ o. (o .packet, o .tables .rounds, o .tables .voteRounds, o .tables .values)));
-  of-fresh-takeover-cell = λ _ _ _ _ _ _. equal;
+  of-fresh-bid-cell = λ _ _ _ _ _ _. equal;
   of-own-allowed = λ _ _ _ _ _ _. equal;
-  of-possible-takeover-cell = λ _ _ _ _ _ _. equal;
+  of-possible-bid-cell = λ _ _ _ _ _ _. equal;
   of-start-cell = λ _ _ answer other _ _ p q. one-takeover answer other (p ∙ sym q);
   of-take-promise = λ _ _ answer other _ _ p q. one-takeover answer other (p ∙ sym q);
   of-backup-start = (λ _ _ _ _ _ _. seen (λ o. o .verdict), λ _ _ _ _ _ _. seen (λ o. (o .packet, o .tables .rounds, o .tables .phases, o .tables .sets, o .tables .bestVoteRounds, o .tables .bestValues, o .tables .ownValues)));

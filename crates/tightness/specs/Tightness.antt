@@ -51,9 +51,9 @@ use Rattle.ballot.proofs.is_possible.Reads as possible-ballot-cell
 use Rattle.ballot.proofs.place_of.Reads as ballot-place-of
 use Rattle.ballot.proofs.obey.Reads as obey
 use Rattle.acceptor.proofs.myrthakel_acceptor_step.Reads as acceptor-step
-use Rattle.takeover.proofs.fresh_cell.Reads as fresh-takeover-cell
-use Rattle.takeover.proofs.own_allowed.Reads as own-allowed
-use Rattle.takeover.proofs.is_possible.Reads as possible-takeover-cell
+use Rattle.bid.proofs.fresh_cell.Reads as fresh-bid-cell
+use Rattle.bid.proofs.own_allowed.Reads as own-allowed
+use Rattle.bid.proofs.is_possible.Reads as possible-bid-cell
 use Rattle.takeover.proofs.start_cell.Reads as start-cell
 use Rattle.takeover.proofs.take_promise.Reads as take-promise
 use Rattle.backup.proofs.myrthakel_backup_start.Reads as backup-start
@@ -162,10 +162,11 @@ pub record EveryCall : Type 0 where
   pub of-obey : OneAnswer obey.Learnt
   -- acceptor
   pub of-acceptor-step : OneAnswer acceptor-step.Learnt × OneContent acceptor-step.Learnt (λ κs exit. held-4 (exit .1 .1 .1))
-  -- takeover
-  pub of-fresh-takeover-cell : OneAnswer fresh-takeover-cell.Learnt
+  -- bid
+  pub of-fresh-bid-cell : OneAnswer fresh-bid-cell.Learnt
   pub of-own-allowed : OneAnswer own-allowed.Learnt
-  pub of-possible-takeover-cell : OneAnswer possible-takeover-cell.Learnt
+  pub of-possible-bid-cell : OneAnswer possible-bid-cell.Learnt
+  -- takeover
   pub of-start-cell : OneAnswer start-cell.Learnt
   pub of-take-promise : OneAnswer take-promise.Learnt
   -- backup

@@ -27,8 +27,9 @@ use Rattle.quorum.specs.declared.Settings.{Settings}
 use Rattle.quorum.specs.Quorum.{Quorum, within, reachesMajority}
 use Rattle.quorum.specs.Voters.{Mem, newest, older}
 use Rattle.quorum.proofs.Laws.{with-member-within}
-use Rattle.takeover.specs.declared.Cell.{Cell}
-use Rattle.takeover.specs.Takeover.{asking, counting, chosen, closed, started, nextRound, whenMajority}
+use Rattle.bid.specs.declared.Cell.{Cell}
+use Rattle.bid.specs.Bid.{asking}
+use Rattle.takeover.specs.Takeover.{counting, chosen, closed, started, nextRound, whenMajority}
 use Rattle.takeover.proofs.Next.{next-smallest}
 use Rattle.takeover.proofs.Laws.{rule-elim, asking-started, start-rule-elim}
 use Rattle.backup.specs.Backup.{Tables, cellAt, withCell, Sized, backupStep, backupStart}

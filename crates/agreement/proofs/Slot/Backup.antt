@@ -19,8 +19,9 @@ use Rattle.terms.proofs.Rounds.{rank-none, rank-some}
 use Rattle.quorum.specs.Quorum.{Member, Quorum, withMember}
 use Rattle.quorum.specs.Voters.{Mem}
 use Rattle.quorum.proofs.Laws.{empty-bit, with-member-cases}
-use Rattle.takeover.specs.declared.Cell.{Cell}
-use Rattle.takeover.specs.Takeover.{asking, proposed, started, counting, chosen, closed}
+use Rattle.bid.specs.declared.Cell.{Cell}
+use Rattle.bid.specs.Bid.{asking, proposed}
+use Rattle.takeover.specs.Takeover.{started, counting, chosen, closed}
 use Rattle.agreement.specs.Run.{put}
 use Rattle.agreement.proofs.Basics.{Owned, put-same, put-all}
 use Rattle.agreement.proofs.Slot.{Slot, Sound, Propose, Vote, Barred, BackupSound, Counted, promise, propose, spent}

@@ -9,7 +9,7 @@ use native.Mathlib.Omega.{arith}
 use Rattle.terms.specs.declared.Value.{Value}
 use Rattle.terms.specs.Rounds.{theRound, isNone, ownerOf}
 use Rattle.quorum.specs.Voters.{Mem, older}
-use Rattle.takeover.specs.declared.Cell.{Cell}
+use Rattle.bid.specs.declared.Cell.{Cell}
 use Rattle.agreement.proofs.Basics.{extend}
 use Rattle.agreement.proofs.Slot.{Slot, Sound, Propose, Barred, BackupSound, Unopened, propose, spent}
 

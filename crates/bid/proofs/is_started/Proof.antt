@@ -1,9 +1,9 @@
--- `takeover::is_started` meets its contract: each test is what its call ensures.
+-- `bid::is_started` meets its contract: each test is what its call ensures.
 -- Assumes nothing.
-use Rattle.takeover.specs.Takeover.{isStarted}
+use Rattle.bid.specs.Bid.{isStarted}
 use borrow.Author.Needs.{needs}
-use Rattle.takeover.proofs.is_started.Statement.{statement}
-use Rattle.takeover.proofs.is_started.Tie as tie
+use Rattle.bid.proofs.is_started.Statement.{statement}
+use Rattle.bid.proofs.is_started.Tie as tie
 
 owner-requires : tie.Need-owner-requires
 owner-requires c κs = search needs

@@ -1,9 +1,9 @@
--- `takeover::is_fresh` meets its contract: each test is what its call ensures.
+-- `bid::is_fresh` meets its contract: each test is what its call ensures.
 -- Assumes nothing.
-use Rattle.takeover.specs.Takeover.{isFresh}
+use Rattle.bid.specs.Bid.{isFresh}
 use borrow.Author.Needs.{needs}
-use Rattle.takeover.proofs.is_fresh.Statement.{statement}
-use Rattle.takeover.proofs.is_fresh.Tie as tie
+use Rattle.bid.proofs.is_fresh.Statement.{statement}
+use Rattle.bid.proofs.is_fresh.Tie as tie
 
 is-none-requires : tie.Need-is-none-requires
 is-none-requires c κs = search needs

@@ -1,9 +1,9 @@
--- `takeover::phase_fits` meets its contract: each count is what its call ensures.
+-- `bid::phase_fits` meets its contract: each count is what its call ensures.
 -- Assumes nothing.
-use Rattle.takeover.specs.Takeover.{phaseFits}
+use Rattle.bid.specs.Bid.{phaseFits}
 use borrow.Author.Needs.{needs}
-use Rattle.takeover.proofs.phase_fits.Statement.{statement}
-use Rattle.takeover.proofs.phase_fits.Tie as tie
+use Rattle.bid.proofs.phase_fits.Statement.{statement}
+use Rattle.bid.proofs.phase_fits.Tie as tie
 
 size-requires : tie.Need-size-requires
 size-requires c κs = search needs

@@ -1,9 +1,9 @@
--- `takeover::is_possible` meets its contract: each side is what its call ensures.
+-- `bid::is_possible` meets its contract: each side is what its call ensures.
 -- Assumes nothing.
-use Rattle.takeover.specs.Takeover.{possible}
+use Rattle.bid.specs.Bid.{possible}
 use borrow.Author.Needs.{needs}
-use Rattle.takeover.proofs.is_possible.Statement.{statement}
-use Rattle.takeover.proofs.is_possible.Tie as tie
+use Rattle.bid.proofs.is_possible.Statement.{statement}
+use Rattle.bid.proofs.is_possible.Tie as tie
 
 is-fresh-requires : tie.Need-is-fresh-requires
 is-fresh-requires c κs = search needs

@@ -1,9 +1,9 @@
--- `takeover::own_allowed` meets its contract: the code is the definition, with what `settings_allowed` ensures.
+-- `bid::own_allowed` meets its contract: the code is the definition, with what `settings_allowed` ensures.
 -- Assumes nothing.
-use Rattle.takeover.specs.Takeover.{ownAllowed}
+use Rattle.bid.specs.Bid.{ownAllowed}
 use borrow.Author.Needs.{needs}
-use Rattle.takeover.proofs.own_allowed.Statement.{statement}
-use Rattle.takeover.proofs.own_allowed.Tie as tie
+use Rattle.bid.proofs.own_allowed.Statement.{statement}
+use Rattle.bid.proofs.own_allowed.Tie as tie
 
 settings-allowed-requires : tie.Need-settings-allowed-requires
 settings-allowed-requires c κs = search needs
