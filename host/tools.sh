@@ -35,23 +35,15 @@ archive_files() { # NAME..
     printf 'target/staticlib/lib%s.a ' "$@"
 }
 
-# Writes the archives of libraries. Making one proves its crate, so one that is newer than all of crates/ is used as it is; the others are made side by side.
+# Writes the archives of libraries. Making one proves its crate, so one that is newer than all of crates/ is used as it is.
 archives() { # NAME..
-    local name archive old=() status=0
+    local name archive
     for name in "$@"; do
-        archive=target/staticlib/lib$name.a
-        if [ ! -f "$archive" ] || [ -n "$(find crates -newer "$archive" -print -quit)" ]; then old+=("$name"); fi
+        archive=$(archive_files "$name")
+        if [ -f $archive ] && [ -z "$(find crates -newer $archive -print -quit)" ]; then continue; fi
+        echo "proving $name for its archive" >&2
+        rt staticlib "$name" >"target/log/$name.archive" 2>&1 || { cat "target/log/$name.archive"; return 1; }
     done
-    [ "${#old[@]}" -gt 0 ] || return 0
-    echo "proving ${old[*]} for their archives" >&2
-    rt check "${old[@]}" >target/log/archives 2>&1 || { cat target/log/archives; return 1; }
-    for name in "${old[@]}"; do
-        rm -f "target/staticlib/lib$name.a"
-        rt staticlib "$name" >"target/log/$name.archive" 2>&1 &
-    done
-    wait
-    for name in "${old[@]}"; do [ -f "target/staticlib/lib$name.a" ] || { cat "target/log/$name.archive"; status=1; }; done
-    return "$status"
 }
 
 # Builds a Rust program with the archives it calls.
