@@ -32,18 +32,34 @@ fi
 libraries='primary acceptor backup learner delivery holes saved'
 
 archive_files() { # NAME..
-    printf 'target/staticlib/lib%s.a ' "$@"
+    printf 'target/staticlib/lib%s.a\n' "$@"
 }
 
-# Writes the archives of libraries. Making one proves its crate, so one that is newer than all of crates/ is used as it is.
+# Writes the archives of libraries. Making one proves its crate, so one that is newer than all of crates/ is used as it is. The others are made side by side,
+# each in a copy: two checks in one repository undo each other's stamps.
 archives() { # NAME..
-    local name archive
+    local name archive copies old=() status=0
     for name in "$@"; do
         archive=$(archive_files "$name")
-        if [ -f $archive ] && [ -z "$(find crates -newer $archive -print -quit)" ]; then continue; fi
-        echo "proving $name for its archive" >&2
-        rt staticlib "$name" >"target/log/$name.archive" 2>&1 || { cat "target/log/$name.archive"; return 1; }
+        if [ ! -f $archive ] || [ -n "$(find crates -newer $archive -print -quit)" ]; then old+=("$name"); fi
     done
+    [ "${#old[@]}" -gt 0 ] || return 0
+    echo "proving ${old[*]} for their archives" >&2
+    rt check "${old[@]}" >target/log/archives 2>&1 || { cat target/log/archives; return 1; }
+    copies=$(mktemp -d)
+    for name in "${old[@]}"; do archive_in "$copies/$name" "$name" >"target/log/$name.archive" 2>&1 & done
+    wait
+    rm -rf "$copies"
+    for name in "${old[@]}"; do [ -f $(archive_files "$name") ] || { cat "target/log/$name.archive"; status=1; }; done
+    return "$status"
+}
+
+archive_in() { # COPY NAME
+    rm -f $(archive_files "$2")
+    mkdir -p "$1/target" target/staticlib
+    cp -R crates crates.txt "$1"
+    cp -R target/rlib target/stamp "$1/target"
+    (cd "$1" && rt staticlib "$2") && cp "$1/$(archive_files "$2")" target/staticlib
 }
 
 # Builds a Rust program with the archives it calls.
