@@ -8,7 +8,6 @@ use lib.ListN.{length}
 use borrow.Author.Tests.{ne-eqb}
 use Rattle.terms.specs.Ladder.{need_or_then_}
 use Rattle.player.specs.Step.{Outcome, unchanged}
-use Rattle.player.proofs.Steps as steps
 use Rattle.quorum.specs.declared.Settings.{Settings}
 use Rattle.sequence.specs.Sequence.{thePrimary, primaryStep}
 use Rattle.primary.specs.Primary.{lent, lentStep}

@@ -5,7 +5,6 @@ use mathlib.Core.Path.{_≡_, ap}
 use mathlib.Core.List.{List}
 use lib.ListN.{length, getD, set}
 use Rattle.player.specs.Step.{Outcome, outcome}
-use Rattle.player.proofs.Steps as steps
 use Rattle.quorum.specs.declared.Settings.{Settings}
 use Rattle.sequence.specs.declared.Primary.{Primary}
 use Rattle.sequence.specs.Sequence.{thePrimary, primaryStep}

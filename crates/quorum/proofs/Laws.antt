@@ -13,7 +13,7 @@ use lib.Pow.{pow-pos}
 use borrow.Author.Tests.{eqb-true, eqb-false, leb-true, ltb-true, eq-eqb, ne-eqb, le-leb, lt-leb, lt-ltb}
 use Rattle.quorum.specs.declared.Settings.{Settings}
 use Rattle.quorum.specs.Settings.{acceptorsAllowed, instancesAllowed, allowed}
-use Rattle.quorum.specs.Quorum.{majority, bit, Member, hasMember, withMember, within, size, reaches, reachesMajority, AtLeast, Quorum, Shared}
+use Rattle.quorum.specs.Quorum.{majority, bit, Member, hasMember, withMember, within, size, reaches, AtLeast, Quorum, Shared}
 use Rattle.quorum.proofs.Bits.{bit-below-2, lowest-bit, higher-bit, bit-above, same-bits, added}
 
 -- ---- what each definition says in numbers
@@ -28,11 +28,12 @@ pub majority-iff : (acceptors count : ℕ) → (acceptors < 2 * count) ↔ (majo
 unfolding majority
 majority-iff acceptors count = (λ half. omega arith, λ reached. omega arith)
 
--- A set is within M where it is below 2 ^ M.
+-- It is never nothing.
 pub majority-some : (acceptors : ℕ) → 1 ≤ majority acceptors
 unfolding majority
 majority-some acceptors = omega arith
 
+-- A set is within M where it is below 2 ^ M.
 pub within-iff : (acceptors set : ℕ) → (within acceptors set ≡ true) ↔ (set < 2 ^ acceptors)
 unfolding within
 within-iff acceptors set = (ltb-true set (2 ^ acceptors), lt-ltb set (2 ^ acceptors))
@@ -246,9 +247,3 @@ allowed-brings settings test =
       majority-least = omega arith;
       majority-most = omega arith;
     }
-
--- At most one member is no majority of an allowed M.
-pub few-no-majority : (settings : Settings) (set : ℕ) → allowed settings ≡ true → size set ≤ 1 → reachesMajority (settings .acceptors) set ≡ false
-unfolding reaches
-few-no-majority settings set test few =
-    lt-leb (majority (settings .acceptors)) (size set) (omega (arith, allowed-brings settings test .majority-least))

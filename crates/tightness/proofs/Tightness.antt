@@ -38,7 +38,12 @@ equal p q = p ∙ sym q
 seen : {A B : Type 0} (part : A → B) {one other same : A} → one ≡ same → other ≡ same → part one ≡ part other
 seen part p q = ap part (equal p q)
 
--- the answer that has the ruling
+-- where a ruling gives back the answer that it is of, it tells it
+told : {Answer Said : Type 0} (rulingOf : Answer → Said) (back : Said → Answer) → ((answer : Answer) → back (rulingOf answer) ≡ answer)
+    → (one other : Answer) {same : Said} → rulingOf one ≡ same → rulingOf other ≡ same → one ≡ other
+told rulingOf back gives-back one other p q = sym (gives-back one) ∙ seen back p q ∙ gives-back other
+
+-- the answers that have the rulings
 ruledBy : Ruling Cell → Ruled
 ruledBy (refused number) = ruled.Refused number
 ruledBy (sends verdict message cell) = ruled.Sent cell message
@@ -49,9 +54,6 @@ unfolding ruledBy
 ruled-back (ruled.Sent cell message) = refl
 ruled-back (ruled.Held cell) = refl
 ruled-back (ruled.Refused number) = refl
-
-one-takeover : (answer other : Ruled) → takeover.rulingOf answer ≡ takeover.rulingOf other → answer ≡ other
-one-takeover answer other e = sym (ruled-back answer) ∙ ap ruledBy e ∙ ruled-back other
 
 obeyedBy : Ruling ballotCells.Cell → obeying.Ruled
 obeyedBy (refused number) = obeyed.Refused number
@@ -64,9 +66,6 @@ obeyed-back (obeyed.Promised cell message) = refl
 obeyed-back (obeyed.Voted cell message) = refl
 obeyed-back (obeyed.Refused number) = refl
 
-one-ballot : (answer other : obeying.Ruled) → ballot.rulingOf answer ≡ ballot.rulingOf other → answer ≡ other
-one-ballot answer other e = sym (obeyed-back answer) ∙ ap obeyedBy e ∙ obeyed-back other
-
 countedBy : Ruling Tally → Counted
 countedBy (refused number) = counted.Refused number
 countedBy (sends verdict message cell) = counted.Held cell
@@ -77,9 +76,6 @@ unfolding countedBy if_then_else_
 counted-back (counted.Held cell) = refl
 counted-back (counted.Reached cell) = refl
 counted-back (counted.Refused number) = refl
-
-one-tally : (answer other : Counted) → tally.rulingOf answer ≡ tally.rulingOf other → answer ≡ other
-one-tally answer other e = sym (counted-back answer) ∙ ap countedBy e ∙ counted-back other
 
 -- the contract of the call on a record lent by reference states the fact that is shown tight
 pub requested-stated : {M : Type 1} (𝓤 : URA M) (H : Heap 𝓤) (A : Atoms 𝓤) (mem : Memory → SProp 𝓤) (run : Routine → Fun 𝓤)
@@ -129,19 +125,19 @@ every-call = record {
   of-fresh-ballot-cell = λ _ _ _ _ _ _. equal;
   of-possible-ballot-cell = λ _ _ _ _ _ _. equal;
   of-ballot-place-of = λ _ _ _ _ _ _. equal;
-  of-obey = λ _ _ answer other _ _ p q. one-ballot answer other (p ∙ sym q);
+  of-obey = λ _ _ answer other _ _. told ballot.rulingOf obeyedBy obeyed-back answer other;
   of-acceptor-step = (λ _ _ _ _ _ _. seen (λ o. o .verdict), λ _ _ _ _ _ _. seen (λ o. (o .packet, o .tables .rounds, o .tables .voteRounds, o .tables .values)));
   of-fresh-bid-cell = λ _ _ _ _ _ _. equal;
   of-own-allowed = λ _ _ _ _ _ _. equal;
   of-possible-bid-cell = λ _ _ _ _ _ _. equal;
-  of-start-cell = λ _ _ answer other _ _ p q. one-takeover answer other (p ∙ sym q);
-  of-take-promise = λ _ _ answer other _ _ p q. one-takeover answer other (p ∙ sym q);
+  of-start-cell = λ _ _ answer other _ _. told takeover.rulingOf ruledBy ruled-back answer other;
+  of-take-promise = λ _ _ answer other _ _. told takeover.rulingOf ruledBy ruled-back answer other;
   of-backup-start = (λ _ _ _ _ _ _. seen (λ o. o .verdict), λ _ _ _ _ _ _. seen (λ o. (o .packet, o .tables .rounds, o .tables .phases, o .tables .sets, o .tables .bestVoteRounds, o .tables .bestValues, o .tables .ownValues)));
   of-backup-step = (λ _ _ _ _ _ _. seen (λ o. o .verdict), λ _ _ _ _ _ _. seen (λ o. (o .packet, o .tables .rounds, o .tables .phases, o .tables .sets, o .tables .bestVoteRounds, o .tables .bestValues, o .tables .ownValues)));
   of-fresh-tally = λ _ _ _ _ _ _. equal;
   of-is-decided = λ _ _ _ _ _ _. equal;
   of-possible-tally-cell = λ _ _ _ _ _ _. equal;
-  of-count-vote = λ _ _ answer other _ _ p q. one-tally answer other (p ∙ sym q);
+  of-count-vote = λ _ _ answer other _ _. told tally.rulingOf countedBy counted-back answer other;
   of-sizes-allowed = λ _ _ _ _ _ _. equal;
   of-cell-at = λ _ _ _ _ _ _. equal;
   of-store-cell = λ _ _ _ _ _ _. seen (λ t. (t .rounds, t .sets, t .values));
