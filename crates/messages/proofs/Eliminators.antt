@@ -8,9 +8,9 @@ use mathlib.Core.Logic.{⊎-elim}
 use denote.Enum.Declared.{tagOf}
 use types.Run.{OneOf}
 use borrow.Author.Tests.{eqb-false}
-use Rattle.terms.specs.declared.Instance.{Instance}
-use Rattle.terms.specs.declared.Round.{Round}
-use Rattle.terms.specs.declared.Value.{Value}
+use Rattle.basics.specs.declared.Instance.{Instance}
+use Rattle.basics.specs.declared.Round.{Round}
+use Rattle.basics.specs.declared.Value.{Value}
 use Rattle.messages.specs.declared.Message.{Message}
 use Rattle.messages.specs.declared.Message.the-variants.{Request, Prepare, Promise, Propose, Vote}
 use Rattle.messages.proofs.Message.{the-type}
@@ -36,7 +36,9 @@ module _ {A : Type 0} (P : A → Type 0) where
   prepare-elim here other (Vote s i r v) yea nay = nay
 
   pub promise-elim : (here : ℕ → Instance → Round → Round → Value → A) (other : A) (m : Message)
-      → ((sender : ℕ) → (instance : Instance) → (round : Round) → (voteRound : Round) → (value : Value) → m ≡ Promise sender instance round voteRound value → P (here sender instance round voteRound value)) → P other → P (whenPromise here other m)
+      → ((sender : ℕ) → (instance : Instance) → (round voteRound : Round) → (value : Value)
+      → m ≡ Promise sender instance round voteRound value → P (here sender instance round voteRound value))
+      → P other → P (whenPromise here other m)
   unfolding whenPromise
   promise-elim here other (Request s v) yea nay = nay
   promise-elim here other (Prepare i r) yea nay = nay

@@ -2,9 +2,9 @@
 -- Assumes nothing.
 use mathlib.Core.Bool.{Bool, true, false, not, _&&_, _||_}
 use lib.Dec.{eqb, leb}
-use Rattle.terms.specs.Ladder.{if_then_else_}
-use Rattle.terms.specs.Rounds.{isNone, nobody, ownerOf, ownedOr0, ownedNot0, atMost, sameRound}
-use Rattle.terms.specs.Values.{isNull}
+use Rattle.basics.specs.Ladder.{if_then_else_}
+use Rattle.basics.specs.Rounds.{isNone, nobody, ownerOf, ownedOr0, ownedNot0, atMost, sameRound}
+use Rattle.basics.specs.Values.{isNull}
 use Rattle.messages.specs.declared.Fields.{Fields}
 use Rattle.messages.specs.declared.Row.{Row}
 

@@ -2,9 +2,9 @@
 ghost use mathlib.Core.Path.{_≡_};
 ghost use Rattle.messages.specs.Table.{byOwner, requestRow, prepareRow, promiseRow, proposeRow, voteRow, allKept, keepsTable};
 ghost use Rattle.messages.specs.Message.{messageOf, fieldsOf};
-use terms::Instance;
-use terms::Round;
-use terms::Value;
+use basics::Instance;
+use basics::Round;
+use basics::Value;
 
 // The fields of a packet, as they stand there. `kind` is its type.
 pub struct Fields {
@@ -62,8 +62,8 @@ fn request_row(f: Fields) -> Row
         switch: true,
         instance: f.instance.0 == 0,
         round: f.round.0 == 0,
-        vote_round: terms::is_none(f.vote_round),
-        value: !terms::is_null(f.value),
+        vote_round: basics::is_none(f.vote_round),
+        value: !basics::is_null(f.value),
     }
 }
 
@@ -73,23 +73,23 @@ fn prepare_row(f: Fields) -> Row
     Row {
         switch: by_owner(f),
         instance: true,
-        round: terms::owned_not_0(f.round),
-        vote_round: terms::is_none(f.vote_round),
-        value: terms::is_null(f.value),
+        round: basics::owned_not_0(f.round),
+        vote_round: basics::is_none(f.vote_round),
+        value: basics::is_null(f.value),
     }
 }
 
 fn promise_row(f: Fields) -> Row
     ensures { λ r. ⌜ r ≡ promiseRow f ⌝ }
 {
-    let never = terms::is_none(f.vote_round);
-    let before = terms::owned_or_0(f.vote_round) & terms::at_most(f.vote_round, f.round);
+    let never = basics::is_none(f.vote_round);
+    let before = basics::owned_or_0(f.vote_round) & basics::at_most(f.vote_round, f.round);
     Row {
         switch: f.switch <= 6,
         instance: true,
-        round: terms::owned_not_0(f.round),
+        round: basics::owned_not_0(f.round),
         vote_round: never | before,
-        value: !never | terms::is_null(f.value),
+        value: !never | basics::is_null(f.value),
     }
 }
 
@@ -99,8 +99,8 @@ fn propose_row(f: Fields) -> Row
     Row {
         switch: by_owner(f),
         instance: true,
-        round: terms::owned_or_0(f.round),
-        vote_round: terms::is_none(f.vote_round),
+        round: basics::owned_or_0(f.round),
+        vote_round: basics::is_none(f.vote_round),
         value: true,
     }
 }
@@ -111,8 +111,8 @@ fn vote_row(f: Fields) -> Row
     Row {
         switch: f.switch <= 6,
         instance: true,
-        round: terms::owned_or_0(f.round),
-        vote_round: terms::same_round(f.vote_round, f.round),
+        round: basics::owned_or_0(f.round),
+        vote_round: basics::same_round(f.vote_round, f.round),
         value: true,
     }
 }
@@ -120,8 +120,8 @@ fn vote_row(f: Fields) -> Row
 fn by_owner(f: Fields) -> bool
     ensures { λ r. ⌜ r ≡ byOwner f ⌝ }
 {
-    let number = terms::owner(f.round);
-    (number == terms::NOBODY) | (f.switch == number)
+    let number = basics::owner(f.round);
+    (number == basics::NOBODY) | (f.switch == number)
 }
 
 fn all_kept(row: Row) -> bool
@@ -193,15 +193,15 @@ pub fn fields_of(message: Message) -> Fields
             switch,
             instance: Instance(0),
             round: Round(0),
-            vote_round: Round(terms::NONE),
+            vote_round: Round(basics::NONE),
             value,
         },
         Message::Prepare { instance, round } => Fields {
             kind: 1,
-            switch: terms::owner(round),
+            switch: basics::owner(round),
             instance,
             round,
-            vote_round: Round(terms::NONE),
+            vote_round: Round(basics::NONE),
             value: Value { high: 0, low: 0 },
         },
         Message::Promise {
@@ -224,10 +224,10 @@ pub fn fields_of(message: Message) -> Fields
             value,
         } => Fields {
             kind: 3,
-            switch: terms::owner(round),
+            switch: basics::owner(round),
             instance,
             round,
-            vote_round: Round(terms::NONE),
+            vote_round: Round(basics::NONE),
             value,
         },
         Message::Vote {

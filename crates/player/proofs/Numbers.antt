@@ -7,8 +7,8 @@ use mathlib.Core.Logic.{⊎-elim}
 use mathlib.Core.List.{List, [], _∷_}
 use lib.Dec.{eqb}
 use borrow.Author.Tests.{eqb-true}
-use Rattle.terms.specs.Verdict.{saysSend}
-use Rattle.terms.proofs.Ladder.{or-cases}
+use Rattle.basics.specs.Verdict.{saysSend}
+use Rattle.basics.proofs.Ladder.{or-cases}
 use Rattle.wire.specs.Packet.{readPacket}
 use Rattle.wire.proofs.Laws.{RefusedBy, reader-refuses}
 use Rattle.player.specs.Promises.{OneOf, first, later, packetRefusals}

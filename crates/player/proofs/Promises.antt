@@ -5,11 +5,11 @@ use mathlib.Core.Path.{_≡_, refl, sym, ap, _∙_, subst}
 use mathlib.Core.Bool.{Bool, true, false, false≢true}
 use mathlib.Core.List.{List}
 use native.Mathlib.Decide.{ℕ-discrete}
-use Rattle.terms.specs.declared.Place.the-variants.{At}
-use Rattle.terms.specs.declared.Verdict.{Verdict}
-use Rattle.terms.specs.declared.Verdict.the-variants.{ToAcceptors, ToLeader, ToLearners, Hold, Decided, Done, NotYet, NoHole}
-use Rattle.terms.specs.Verdict.{verdictNumber, isVerdict, saysSend}
-use Rattle.terms.proofs.Places.{PlacedBy}
+use Rattle.basics.specs.declared.Place.the-variants.{At}
+use Rattle.basics.specs.declared.Verdict.{Verdict}
+use Rattle.basics.specs.declared.Verdict.the-variants.{ToAcceptors, ToLeader, ToLearners, Hold, Decided, Done, NotYet, NoHole}
+use Rattle.basics.specs.Verdict.{verdictNumber, isVerdict, saysSend}
+use Rattle.basics.proofs.Places.{PlacedBy}
 use Rattle.messages.specs.declared.Message.{Message}
 use Rattle.messages.specs.Table.{keepsTable}
 use Rattle.messages.specs.Message.{fieldsOf}
@@ -57,8 +57,8 @@ verdict-is NoHole = refl
 -- ---- what comes of a ruling
 
 module _ {Tables Cell : Type 0} (packet : List ℕ) (tables : Tables) (store : Cell → Tables) where
-  pub ruled-keeps : (r : Ruling Cell) → isVerdict (ruled packet tables store r .verdict) ≡ false
-      → ruled packet tables store r ≡ unchanged packet tables (ruled packet tables store r .verdict)
+  pub ruled-keeps : (r : Ruling Cell) → isVerdict (ruled packet tables store r .answer) ≡ false
+      → ruled packet tables store r ≡ unchanged packet tables (ruled packet tables store r .answer)
   unfolding ruled
   ruled-keeps (refused number) e = refl
   ruled-keeps (sends verdict m c) e = absurd (false≢true (sym e ∙ verdict-is verdict))
@@ -71,13 +71,13 @@ module _ {Tables Cell : Type 0} (packet : List ℕ) (tables : Tables) (store : C
   ruled-numbers refusals verdicts (counts verdict c) one = acts one
 
   -- what holds of the tables, and of the tables with the next cell, if there is one, holds of the tables afterwards
-  pub ruled-tables : (Holds : Tables → Type 0) → Holds tables → (r : Ruling Cell) → NextCell (λ c. Holds (store c)) r → Holds (ruled packet tables store r .tables)
+  pub ruled-tables : (Holds : Tables → Type 0) → Holds tables → (r : Ruling Cell) → NextCell (λ c. Holds (store c)) r → Holds (ruled packet tables store r .left .tables)
   unfolding ruled
   ruled-tables Holds before (refused number) next = before
   ruled-tables Holds before (sends verdict m c) next = next
   ruled-tables Holds before (counts verdict c) next = next
 
-  pub ruled-sends : (r : Ruling Cell) → SendsOnly Writable r → saysSend (ruled packet tables store r .verdict) ≡ true → Kept (ruled packet tables store r .packet)
+  pub ruled-sends : (r : Ruling Cell) → SendsOnly Writable r → saysSend (ruled packet tables store r .answer) ≡ true → Kept (ruled packet tables store r .left .packet)
   unfolding ruled
   ruled-sends (refused number) quiet says = absurd (false≢true (sym quiet ∙ says))
   ruled-sends (sends verdict m c) fine says = read-kept (packetOf m) m (written-reads m fine)
@@ -110,7 +110,7 @@ module _ {Tables Cell : Type 0} (player : Player Tables Cell) where
   -- needs no fact of the player: what is not a ruling with a verdict is unchanged
   pub refusal-keeps-all : RefusalKeepsAll (step player)
   refusal-keeps-all packet tables =
-      step-elim player packet tables (λ o. isVerdict (o .verdict) ≡ false → o ≡ unchanged packet tables (o .verdict)) (λ _. refl) (λ number _ _. refl)
+      step-elim player packet tables (λ o. isVerdict (o .answer) ≡ false → o ≡ unchanged packet tables (o .answer)) (λ _. refl) (λ number _ _. refl)
       (λ m _ number _ _. refl) (λ _ m _ index _. ruled-keeps packet tables (player .withCell tables index) (player .rule (player .cellAt tables index) m))
 
   module _ (others verdicts : List ℕ) (places : (m : Message) → PlacedBy (λ n. OneOf n (packetRefusals others)) (player .place m))
@@ -126,9 +126,9 @@ module _ {Tables Cell : Type 0} (player : Player Tables Cell) where
   module _ (Holds : Tables → Type 0) (packet : List ℕ) (tables : Tables)
       (rules : (m : Message) (i : ℕ) → player .allowed tables ≡ true → readPacket packet ≡ Read m → player .place m ≡ At i → Holds tables
       → NextCell (λ c. Holds (player .withCell tables i c)) (player .rule (player .cellAt tables i) m)) where
-    pub tables-hold : Holds tables → Holds (step player packet tables .tables)
+    pub tables-hold : Holds tables → Holds (step player packet tables .left .tables)
     tables-hold before =
-        step-elim player packet tables (λ o. Holds (o .tables)) before (λ number _. before) (λ m _ number _. before)
+        step-elim player packet tables (λ o. Holds (o .left .tables)) before (λ number _. before) (λ m _ number _. before)
         (λ allowed m reads index stands. ruled-tables packet tables (player .withCell tables index) Holds before _ (rules m index allowed reads stands before))
 
   module _ (apart : (t : Tables) (i j : ℕ) (c : Cell) → (i ≡ j → ⊥) → player .cellAt (player .withCell t i c) j ≡ player .cellAt t j) where
@@ -154,7 +154,7 @@ module _ {Tables Cell : Type 0} (player : Player Tables Cell) where
     pub sends-kept : SendsKept (step player) Fitting
     unfolding saysSend
     sends-kept packet tables bytes fits =
-        step-elim player packet tables (λ o. saysSend (o .verdict) ≡ true → Kept (o .packet)) (λ e. absurd (false≢true e))
+        step-elim player packet tables (λ o. saysSend (o .answer) ≡ true → Kept (o .left .packet)) (λ e. absurd (false≢true e))
         (λ number e says. absurd (false≢true (sym (subst (RefusedBy (λ n. saysSend n ≡ false)) e (reader-quiet packet)) ∙ says)))
         (λ m _ number e says. absurd (false≢true (sym (subst (PlacedBy (λ n. saysSend n ≡ false)) e (places m)) ∙ says)))
         (λ allowed m reads index _. ruled-sends packet tables (player .withCell tables index) _ (rules tables m index allowed fits (read-writable packet m bytes reads)))

@@ -6,21 +6,23 @@ use mathlib.Core.Bool.{Bool, true, false, not}
 use mathlib.Core.List.{List}
 use lib.ListN.{length}
 use borrow.Author.Tests.{not-true, not-false}
-use Rattle.terms.specs.declared.Place.{Place}
-use Rattle.terms.specs.declared.Place.the-variants.{At, Nowhere}
-use Rattle.terms.specs.declared.Verdict.{Verdict}
-use Rattle.terms.specs.Verdict.{verdictNumber}
-use Rattle.terms.specs.Places.{nowhereOf}
-use Rattle.terms.proofs.Ladder.{need-elim, need-passed, need-failed}
+use Rattle.basics.specs.Outcome.{Outcome, outcome, Lent, lent}
+use Rattle.basics.specs.declared.Place.{Place}
+use Rattle.basics.specs.declared.Place.the-variants.{At, Nowhere}
+use Rattle.basics.specs.declared.Verdict.{Verdict}
+use Rattle.basics.specs.Verdict.{verdictNumber}
+use Rattle.basics.specs.Places.{nowhereOf}
+use Rattle.basics.specs.Ladder.{need_or_then_}
+use Rattle.basics.proofs.Ladder.{need-elim, need-passed, need-failed}
 use Rattle.messages.specs.declared.Message.{Message}
 use Rattle.wire.specs.declared.Reading.{Reading}
 use Rattle.wire.specs.declared.Reading.the-variants.{Read, Refused}
 use Rattle.wire.specs.Packet.{packetLength, readPacket, refusalOf, withMessage}
 use Rattle.wire.proofs.Laws.{put-over}
-use Rattle.player.specs.Step.{Outcome, counts, sends, outcome, unchanged, Player, afterReading, afterPlacing, ruled, act, step}
+use Rattle.player.specs.Step.{Ruling, counts, sends, unchanged, Player, afterReading, afterPlacing, ruled, ruleAt, act, step}
 
 module _ {Tables Cell : Type 0} (player : Player Tables Cell) (packet : List ℕ) (tables : Tables) where
-  abbrev ruling : Message → (index : ℕ) → Outcome Tables
+  abbrev ruling : Message → (index : ℕ) → Outcome (Lent Tables)
   ruling m index = ruled packet tables (player .withCell tables index) (player .rule (player .cellAt tables index) m)
 
   -- ---- the ways out of a step
@@ -43,28 +45,24 @@ module _ {Tables Cell : Type 0} (player : Player Tables Cell) (packet : List ℕ
           ap (unchanged packet tables) (answer-so ∙ ap refusalOf refuses)
           ∙ sym (ap (λ r. afterReading packet tables r (act player packet tables)) refuses) ∙ past-7
 
-      pub acted : (m : Message) (o : Outcome Tables) → reading ≡ Read m → o ≡ act player packet tables m → o ≡ step player packet tables
+      pub acted : (m : Message) (o : Outcome (Lent Tables)) → reading ≡ Read m → o ≡ act player packet tables m → o ≡ step player packet tables
       unfolding afterReading
       acted m o reads o-so = o-so ∙ sym (ap (λ r. afterReading packet tables r (act player packet tables)) reads) ∙ past-7
 
-  module _ (m : Message) (place : Place) (place-so : place ≡ player .place m) where
-    pub placed-nowhere : (number answer : ℕ) → place ≡ Nowhere number → answer ≡ nowhereOf place → unchanged packet tables answer ≡ act player packet tables m
-    unfolding act afterPlacing
-    placed-nowhere number answer no-place answer-so =
-        ap (unchanged packet tables) (answer-so ∙ ap nowhereOf no-place) ∙ sym (ap (λ p. afterPlacing packet tables p (ruling m)) (sym place-so ∙ no-place))
-
-    pub placed-at : (index : ℕ) (o : Outcome Tables) → place ≡ At index → o ≡ ruling m index → o ≡ act player packet tables m
-    unfolding act afterPlacing
-    placed-at index o stands o-so = o-so ∙ sym (ap (λ p. afterPlacing packet tables p (ruling m)) (sym place-so ∙ stands))
+  -- the step where it obeys, and where a rule refuses, as an equation
+  pub step-rules : (m : Message) (index : ℕ) (r : Ruling Cell) → player .allowed tables ≡ true → readPacket packet ≡ Read m → player .place m ≡ At index
+      → player .rule (player .cellAt tables index) m ≡ r → step player packet tables ≡ ruled packet tables (player .withCell tables index) r
+  unfolding step afterReading act ruleAt afterPlacing need_or_then_
+  step-rules m index r fine reads stands r-so = rw (fine, reads, stands, r-so)
 
   -- ---- what holds of every outcome
 
-  module _ (Q : Outcome Tables → Type 0) (not-allowed : Q (unchanged packet tables 7))
+  module _ (Q : Outcome (Lent Tables) → Type 0) (not-allowed : Q (unchanged packet tables 7))
       (not-read : (number : ℕ) → readPacket packet ≡ Refused number → Q (unchanged packet tables number))
       (not-placed : (m : Message) → readPacket packet ≡ Read m → (number : ℕ) → player .place m ≡ Nowhere number → Q (unchanged packet tables number))
       (rules : player .allowed tables ≡ true → (m : Message) → readPacket packet ≡ Read m → (index : ℕ) → player .place m ≡ At index → Q (ruling m index)) where
     pub step-elim : Q (step player packet tables)
-    unfolding step act afterReading afterPlacing
+    unfolding step act ruleAt afterReading afterPlacing
     step-elim = need-elim Q _ _ _ not-allowed λ allowed. read allowed (readPacket packet) refl
       where
         place : player .allowed tables ≡ true → (m : Message) → readPacket packet ≡ Read m → (p : Place) → player .place m ≡ p → Q (afterPlacing packet tables p (ruling m))
@@ -75,14 +73,32 @@ module _ {Tables Cell : Type 0} (player : Player Tables Cell) (packet : List ℕ
         read allowed (Read m) e = place allowed m e (player .place m) refl
         read allowed (Refused number) e = not-read number e
 
+-- ---- a rule at a place, as the code goes through it
+
+module _ {Tables Cell : Type 0} (cellAt : Tables → (index : ℕ) → Cell) (withCell : Tables → (index : ℕ) → Cell → Tables) (packet : List ℕ) (tables : Tables)
+    (rule : Cell → Ruling Cell) (asked place : Place) (place-so : place ≡ asked) where
+  pub not-placed : (number answer : ℕ) → place ≡ Nowhere number → answer ≡ nowhereOf place
+      → unchanged packet tables answer ≡ ruleAt cellAt withCell packet tables asked rule
+  unfolding ruleAt afterPlacing
+  not-placed number answer no-place answer-so =
+      ap (unchanged packet tables) (answer-so ∙ ap nowhereOf no-place)
+      ∙ ap (λ p. ruleAt cellAt withCell packet tables p rule) (sym no-place ∙ place-so)
+
+  pub placed-at : (index : ℕ) (cell : Cell) (r : Ruling Cell) (o : Outcome (Lent Tables)) → place ≡ At index → cell ≡ cellAt tables index → r ≡ rule cell
+      → o ≡ ruled packet tables (withCell tables index) r → o ≡ ruleAt cellAt withCell packet tables asked rule
+  unfolding ruleAt afterPlacing
+  placed-at index cell r o stands cell-so r-so o-so =
+      o-so ∙ ap (ruled packet tables (withCell tables index)) (r-so ∙ ap rule cell-so)
+      ∙ ap (λ p. ruleAt cellAt withCell packet tables p rule) (sym stands ∙ place-so)
+
 -- ---- rulings, as they are stored and sent
 
 module _ {Tables Cell : Type 0} (packet : List ℕ) (tables next : Tables) (store : Cell → Tables) (answer : ℕ) (verdict : Verdict) (c : Cell)
     (answer-so : answer ≡ verdictNumber verdict) (next-so : next ≡ store c) where
-  pub sent : (left : List ℕ) (m : Message) → length packet ≡ packetLength → left ≡ withMessage packet m → outcome answer left next ≡ ruled packet tables store (sends verdict m c)
+  pub sent : (left : List ℕ) (m : Message) → length packet ≡ packetLength → left ≡ withMessage packet m → outcome answer (lent left next) ≡ ruled packet tables store (sends verdict m c)
   unfolding ruled
   sent left m long left-so = rw (answer-so, left-so, put-over packet m long, next-so)
 
-  pub counted : outcome answer packet next ≡ ruled packet tables store (counts verdict c)
+  pub counted : outcome answer (lent packet next) ≡ ruled packet tables store (counts verdict c)
   unfolding ruled
   counted = rw (answer-so, next-so)

@@ -4,28 +4,20 @@
 use Prim.Native.Nat.{ℕ}
 use mathlib.Core.Bool.{Bool}
 use mathlib.Core.List.{List}
-use Rattle.terms.specs.declared.Place.{Place}
-use Rattle.terms.specs.declared.Place.the-variants.{At, Nowhere}
-use Rattle.terms.specs.declared.Verdict.{Verdict}
-use Rattle.terms.specs.Ladder.{need_or_then_}
-use Rattle.terms.specs.Verdict.{verdictNumber}
+use Rattle.basics.specs.declared.Place.{Place}
+use Rattle.basics.specs.declared.Place.the-variants.{At, Nowhere}
+use Rattle.basics.specs.declared.Verdict.{Verdict}
+use Rattle.basics.specs.Ladder.{need_or_then_}
+use Rattle.basics.specs.Verdict.{verdictNumber}
+use Rattle.basics.specs.Outcome.{Outcome, outcome, Lent, lent}
 use Rattle.messages.specs.declared.Message.{Message}
 use Rattle.wire.specs.declared.Reading.{Reading}
 use Rattle.wire.specs.declared.Reading.the-variants.{Read, Refused}
 use Rattle.wire.specs.Packet.{readPacket, packetOf}
 
--- What a call answers and leaves.
-pub record Outcome (Tables : Type 0) : Type 0 where
-  pub verdict : ℕ
-  pub packet : List ℕ
-  pub tables : Tables
-
-abbrev pub outcome : {Tables : Type 0} → ℕ → List ℕ → Tables → Outcome Tables
-outcome verdict packet tables = record { verdict = verdict; packet = packet; tables = tables }
-
 -- A refusal sends nothing and changes nothing.
-abbrev pub unchanged : {Tables : Type 0} → List ℕ → Tables → (number : ℕ) → Outcome Tables
-unchanged packet tables number = outcome number packet tables
+abbrev pub unchanged : {Tables : Type 0} → List ℕ → Tables → (number : ℕ) → Outcome (Lent Tables)
+unchanged packet tables number = outcome number (lent packet tables)
 
 -- A player's ruling from a cell and a message: a refusal; or a verdict with the next cell, and a message to send in the packet's place, or
 -- (hold: counted; decided) the packet unchanged.
@@ -46,27 +38,30 @@ pub record Player (Tables Cell : Type 0) : Type 0 where
 
 module _ {Tables : Type 0} (packet : List ℕ) (tables : Tables) where
   -- A packet is first read into a message or a refusal, whose number is passed on.
-  unfoldable pub afterReading : Reading → (Message → Outcome Tables) → Outcome Tables
+  unfoldable pub afterReading : Reading → (Message → Outcome (Lent Tables)) → Outcome (Lent Tables)
   afterReading (Read message) next = next message
   afterReading (Refused number) next = unchanged packet tables number
 
-  unfoldable pub afterPlacing : Place → ((index : ℕ) → Outcome Tables) → Outcome Tables
+  unfoldable pub afterPlacing : Place → ((index : ℕ) → Outcome (Lent Tables)) → Outcome (Lent Tables)
   afterPlacing (At index) next = next index
   afterPlacing (Nowhere number) next = unchanged packet tables number
 
-  unfoldable pub ruled : {Cell : Type 0} → (Cell → Tables) → Ruling Cell → Outcome Tables
+  unfoldable pub ruled : {Cell : Type 0} → (Cell → Tables) → Ruling Cell → Outcome (Lent Tables)
   ruled store (refused number) = unchanged packet tables number
-  ruled store (sends verdict message cell) = outcome (verdictNumber verdict) (packetOf message) (store cell)
-  ruled store (counts verdict cell) = outcome (verdictNumber verdict) packet (store cell)
+  ruled store (sends verdict message cell) = outcome (verdictNumber verdict) (lent (packetOf message) (store cell))
+  ruled store (counts verdict cell) = outcome (verdictNumber verdict) (lent packet (store cell))
+
+module _ {Tables Cell : Type 0} (cellAt : Tables → (index : ℕ) → Cell) (withCell : Tables → (index : ℕ) → Cell → Tables) (packet : List ℕ) (tables : Tables) where
+  -- A rule at the cell of a place.
+  unfoldable pub ruleAt : Place → (rule : Cell → Ruling Cell) → Outcome (Lent Tables)
+  ruleAt place rule = afterPlacing packet tables place λ index. ruled packet tables (withCell tables index) (rule (cellAt tables index))
 
 module _ {Tables Cell : Type 0} (player : Player Tables Cell) (packet : List ℕ) (tables : Tables) where
   -- The player's rule at the cell of a message.
-  unfoldable pub act : Message → Outcome Tables
-  act message =
-      afterPlacing packet tables (player .place message) λ index.
-      ruled packet tables (player .withCell tables index) (player .rule (player .cellAt tables index) message)
+  unfoldable pub act : Message → Outcome (Lent Tables)
+  act message = ruleAt (player .cellAt) (player .withCell) packet tables (player .place message) λ cell. player .rule cell message
 
-  unfoldable pub step : Outcome Tables
+  unfoldable pub step : Outcome (Lent Tables)
   step =
       need player .allowed tables or unchanged packet tables 7 then
       afterReading packet tables (readPacket packet) act

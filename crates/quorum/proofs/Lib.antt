@@ -1,3 +1,4 @@
 mod Bits
 pub mod Laws
 pub mod Voters
+pub mod Senders

@@ -11,15 +11,15 @@ use lib.ListN.{length}
 use borrow.Author.Tests.{eq-eqb, le-leb, leb-true}
 use Rattle.numbers.specs.BigEndian.{toBytes, Bytes}
 use Rattle.numbers.proofs.Bytes.{Bytes-append, Bytes-toBytes, numberAt-lt}
-use Rattle.terms.specs.declared.Instance.{Instance}
-use Rattle.terms.specs.declared.Round.{Round}
-use Rattle.terms.specs.declared.Value.{Value}
-use Rattle.terms.specs.Ladder.{if_then_else_, need_or_then_}
-use Rattle.terms.specs.Rounds.{isNone, nobody, ownerOf, ownedOr0, ownedNot0, atMost}
-use Rattle.terms.specs.Values.{isNull}
-use Rattle.terms.specs.Votes.{isVoteBy}
-use Rattle.terms.proofs.Ladder.{and-true, or-left, or-right, need-elim, if-true}
-use Rattle.terms.proofs.Rounds.{owned-some}
+use Rattle.basics.specs.declared.Instance.{Instance}
+use Rattle.basics.specs.declared.Round.{Round}
+use Rattle.basics.specs.declared.Value.{Value}
+use Rattle.basics.specs.Ladder.{if_then_else_}
+use Rattle.basics.specs.Rounds.{isNone, nobody, ownerOf, ownedOr0, ownedNot0, atMost}
+use Rattle.basics.specs.Values.{isNull}
+use Rattle.basics.specs.Votes.{isVoteUpTo}
+use Rattle.basics.proofs.Ladder.{and-true, or-left, or-right, need-elim, if-true}
+use Rattle.basics.proofs.Rounds.{owned-some}
 use Rattle.messages.specs.declared.Message.{Message}
 use Rattle.messages.specs.declared.Message.the-variants.{Request, Prepare, Promise, Propose, Vote}
 use Rattle.messages.specs.Table.{requestRow, prepareRow, promiseRow, proposeRow, voteRow, tableRow, keepsTable}
@@ -183,15 +183,15 @@ value-column true false true low some h = absurd (false≢true (sym (some refl))
 value-column true false false low some h = h
 value-column false nothing owned low some h = refl
 
-pub promise-votes : (s : ℕ) (i : Instance) (r b : Round) (v : Value) → keepsTable (fieldsOf (Promise s i r b v)) ≡ true → isVoteBy r b v ≡ true
-unfolding tableRow promiseRow fieldsOf isVoteBy if_then_else_
+pub promise-votes : (s : ℕ) (i : Instance) (r b : Round) (v : Value) → keepsTable (fieldsOf (Promise s i r b v)) ≡ true → isVoteUpTo r b v ≡ true
+unfolding tableRow promiseRow fieldsOf isVoteUpTo if_then_else_
 promise-votes s i r b v k =
     let h = columns (fieldsOf (Promise s i r b v)) k in
     one-test (isNone b) (isNull v) (ownedOr0 b && atMost b r) (h .vote-round) (h .value)
 
-pub promise-kept : (s : ℕ) (i : Instance) (r b : Round) (v : Value) → s ≤ 6 → ownedNot0 r ≡ true → isVoteBy r b v ≡ true
+pub promise-kept : (s : ℕ) (i : Instance) (r b : Round) (v : Value) → s ≤ 6 → ownedNot0 r ≡ true → isVoteUpTo r b v ≡ true
     → keepsTable (fieldsOf (Promise s i r b v)) ≡ true
-unfolding keepsTable tableRow promiseRow fieldsOf isVoteBy if_then_else_
+unfolding keepsTable tableRow promiseRow fieldsOf isVoteUpTo if_then_else_
 promise-kept s i r b v h e k =
     and-true (and-true (and-true (and-true (le-leb s 6 h) refl) e) (vote-round-column (isNone b) (isNull v) (ownedOr0 b && atMost b r) k))
     (value-column (isNone b) (isNull v) (ownedOr0 b) (atMost b r) (owned-some b) k)

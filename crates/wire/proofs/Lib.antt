@@ -1,5 +1,5 @@
 pub mod RoundTrip
 pub mod Laws
-pub mod Parts
+pub mod Widths
 mod ReadWays
 mod WriteWays

@@ -7,7 +7,7 @@ use mathlib.Core.List.{List}
 use lib.ListN.{length, getD}
 use borrow.Author.Tests.{eq-eqb, ne-eqb, le-leb, lt-leb, not-true, not-false}
 use Rattle.numbers.specs.BigEndian.{numberAt}
-use Rattle.terms.specs.Ladder.{need_or_then_}
+use Rattle.basics.specs.Ladder.{need_or_then_}
 use Rattle.messages.specs.declared.Fields.{Fields}
 use Rattle.messages.specs.declared.Message.{Message}
 use Rattle.messages.specs.Table.{keepsTable}

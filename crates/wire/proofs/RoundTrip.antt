@@ -12,16 +12,17 @@ use lib.ListN.{length, getD}
 use borrow.Author.Tests.{eqb-true, leb-true, ne-eqb, eq-eqb}
 use Rattle.numbers.specs.BigEndian.{toBytes, bytesAt, numberAt, Bytes}
 use Rattle.numbers.proofs.Bytes.{bigEndian-toBytes, toBytes-numberAt, written-out}
-use Rattle.terms.specs.declared.Instance.{Instance}
-use Rattle.terms.specs.declared.Round.{Round}
-use Rattle.terms.specs.declared.Value.{Value}
-use Rattle.terms.specs.declared.Verdict.the-variants.{Done}
-use Rattle.terms.specs.Ladder.{if_then_else_, need_or_then_}
-use Rattle.terms.specs.Rounds.{theInstance, theRound, none, isNone, nobody, ownerOf, ownedOr0}
-use Rattle.terms.specs.Values.{null, isNull}
-use Rattle.terms.specs.Verdict.{verdictNumber}
-use Rattle.terms.proofs.Ladder.{both-true}
-use Rattle.terms.proofs.Rounds.{owned-or-0}
+use Rattle.basics.specs.declared.Instance.{Instance}
+use Rattle.basics.specs.declared.Round.{Round}
+use Rattle.basics.specs.declared.Value.{Value}
+use Rattle.basics.specs.declared.Verdict.the-variants.{Done}
+use Rattle.basics.specs.Ladder.{if_then_else_, need_or_then_}
+use Rattle.basics.specs.Rounds.{theInstance, theRound, none, isNone, nobody, ownerOf, ownedOr0}
+use Rattle.basics.specs.Values.{null, isNull}
+use Rattle.basics.specs.Verdict.{verdictNumber}
+use Rattle.basics.specs.Outcome.{outcome}
+use Rattle.basics.proofs.Ladder.{both-true}
+use Rattle.basics.proofs.Rounds.{owned-or-0}
 use Rattle.messages.specs.declared.Fields.{Fields}
 use Rattle.messages.specs.declared.Row.{Row}
 use Rattle.messages.specs.declared.Message.{Message}
@@ -30,7 +31,7 @@ use Rattle.messages.specs.Table.{requestRow, prepareRow, promiseRow, proposeRow
 use Rattle.messages.specs.Message.{fields, messageOf, fieldsOf}
 use Rattle.wire.specs.declared.Reading.{Reading}
 use Rattle.wire.specs.declared.Reading.the-variants.{Read, Refused}
-use Rattle.wire.specs.Packet.{packetLength, version, marked, fieldsIn, readPacket, Kept, packetWith, packetOf, written, writePacket}
+use Rattle.wire.specs.Packet.{packetLength, version, marked, fieldsIn, readPacket, Kept, packetWith, packetOf, writePacket}
 
 -- ---- packet and fields
 
@@ -191,19 +192,19 @@ unfolding packetOf
 read-packet-of p m h e = let k = read-kept p m e in ap packetWith (read-fields p m e) ∙ bytes-back p h (k .long) (k .mark) (k .versioned)
 
 -- what the writer took, over whatever bytes, is read as the message
-pub write-then-read : (m : Message) (q left : List ℕ) → InRange (fieldsOf m) → writePacket m q ≡ written (verdictNumber Done) left → readPacket left ≡ Read m
+pub write-then-read : (m : Message) (q left : List ℕ) → InRange (fieldsOf m) → writePacket m q ≡ outcome (verdictNumber Done) left → readPacket left ≡ Read m
 unfolding writePacket need_or_then_
 write-then-read m q left h e = go (eqb (length q) packetLength) (keepsTable (fieldsOf m)) refl e
   where
     go : (long kept : Bool) → keepsTable (fieldsOf m) ≡ kept
-        → (need long or written 1 q then need kept or written 5 q then written (verdictNumber Done) (packetOf m)) ≡ written (verdictNumber Done) left
+        → (need long or outcome 1 q then need kept or outcome 5 q then outcome (verdictNumber Done) (packetOf m)) ≡ outcome (verdictNumber Done) left
         → readPacket left ≡ Read m
-    go true true k w = sym (ap readPacket (ap (λ x. x .packet) w)) ∙ packet-reads m h k
+    go true true k w = sym (ap readPacket (ap (λ x. x .left) w)) ∙ packet-reads m h k
     go true false k w = absurd (omega (arith, ap (λ x. x .answer) w))
     go false kept k w = absurd (omega (arith, ap (λ x. x .answer) w))
 
 -- a packet that was read, written again over any 36 bytes, gives the bytes
-pub read-then-write : (p q : List ℕ) (m : Message) → Bytes p → length q ≡ packetLength → readPacket p ≡ Read m → writePacket m q ≡ written (verdictNumber Done) p
+pub read-then-write : (p q : List ℕ) (m : Message) → Bytes p → length q ≡ packetLength → readPacket p ≡ Read m → writePacket m q ≡ outcome (verdictNumber Done) p
 unfolding writePacket need_or_then_
 read-then-write p q m h n e =
     let kept : keepsTable (fieldsOf m) ≡ true = rw (read-fields p m e) (read-kept p m e .table) in

@@ -9,14 +9,15 @@ use lib.Seq.{sets}
 use borrow.Author.Tests.{eq-eqb, ne-eqb, not-true, not-false}
 use Rattle.numbers.specs.BigEndian.{withNumberAt}
 use Rattle.numbers.proofs.Bytes.{written-out}
-use Rattle.terms.specs.declared.Verdict.the-variants.{Done}
-use Rattle.terms.specs.Ladder.{if_then_else_, need_or_then_}
-use Rattle.terms.specs.Verdict.{verdictNumber}
+use Rattle.basics.specs.declared.Verdict.the-variants.{Done}
+use Rattle.basics.specs.Ladder.{if_then_else_, need_or_then_}
+use Rattle.basics.specs.Verdict.{verdictNumber}
+use Rattle.basics.specs.Outcome.{outcome}
 use Rattle.messages.specs.declared.Fields.{Fields}
 use Rattle.messages.specs.declared.Message.{Message}
 use Rattle.messages.specs.Table.{keepsTable}
 use Rattle.messages.specs.Message.{fieldsOf}
-use Rattle.wire.specs.Packet.{packetLength, version, packetWith, packetOf, withMessage, written, writePacket}
+use Rattle.wire.specs.Packet.{packetLength, version, packetWith, packetOf, withMessage, writePacket}
 
 -- the stores of the fields, one after the other
 abbrev stores : List ℕ → Fields → List ℕ
@@ -37,7 +38,7 @@ module _ (p : List ℕ) (m : Message) where
   unfolding withMessage if_then_else_
   nothing-put other = rw (ne-eqb (length p) packetLength other)
 
-  pub refused-1 : (length p ≡ packetLength → ⊥) → written 1 p ≡ writePacket m p
+  pub refused-1 : (length p ≡ packetLength → ⊥) → outcome 1 p ≡ writePacket m p
   unfolding writePacket need_or_then_
   refused-1 other = rw (ne-eqb (length p) packetLength other)
 
@@ -47,10 +48,10 @@ module _ (p : List ℕ) (m : Message) where
     put q q-so = rw (eq-eqb (length p) packetLength long) (q-so ∙ ap packetWith f-so)
 
     module _ (kept : Bool) (kept-so : kept ≡ keepsTable f) where
-      pub refused-5 : not kept ≡ true → written 5 p ≡ writePacket m p
+      pub refused-5 : not kept ≡ true → outcome 5 p ≡ writePacket m p
       unfolding writePacket need_or_then_
       refused-5 broken = rw (eq-eqb (length p) packetLength long, ← f-so, ← kept-so, not-true kept broken)
 
-      pub wrote : not kept ≡ false → (q : List ℕ) (answer : ℕ) → q ≡ packetWith f → answer ≡ verdictNumber Done → written answer q ≡ writePacket m p
+      pub wrote : not kept ≡ false → (q : List ℕ) (answer : ℕ) → q ≡ packetWith f → answer ≡ verdictNumber Done → outcome answer q ≡ writePacket m p
       unfolding writePacket packetOf need_or_then_
       wrote sound q answer q-so answer-so = rw (eq-eqb (length p) packetLength long, ← f-so, ← kept-so, not-false kept sound, q-so, answer-so)

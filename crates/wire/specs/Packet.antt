@@ -8,10 +8,11 @@ use mathlib.Core.Bool.{Bool, true, _&&_}
 use lib.Dec.{eqb, leb}
 use lib.ListN.{length, getD}
 use Rattle.numbers.specs.BigEndian.{numberAt, toBytes}
-use Rattle.terms.specs.Ladder.{if_then_else_, need_or_then_}
-use Rattle.terms.specs.Rounds.{theInstance, theRound}
-use Rattle.terms.specs.declared.Verdict.the-variants.{Done}
-use Rattle.terms.specs.Verdict.{verdictNumber}
+use Rattle.basics.specs.Ladder.{if_then_else_, need_or_then_}
+use Rattle.basics.specs.Rounds.{theInstance, theRound}
+use Rattle.basics.specs.declared.Verdict.the-variants.{Done}
+use Rattle.basics.specs.Verdict.{verdictNumber}
+use Rattle.basics.specs.Outcome.{Outcome, outcome}
 use Rattle.messages.specs.declared.Fields.{Fields}
 use Rattle.messages.specs.declared.Message.{Message}
 use Rattle.messages.specs.Table.{keepsTable}
@@ -76,17 +77,9 @@ packetOf m = packetWith (fieldsOf m)
 unfoldable pub withMessage : List ℕ → Message → List ℕ
 withMessage p m = if eqb (length p) packetLength then packetOf m else p
 
--- What writing answers, and what the packet holds then.
-pub record Written : Type 0 where
-  pub answer : ℕ
-  pub packet : List ℕ
-
-abbrev pub written : ℕ → List ℕ → Written
-written answer packet = record { answer = answer; packet = packet }
-
--- Refused by 1 where the packet has another length, by 5 where the message breaks the table.
-unfoldable pub writePacket : Message → List ℕ → Written
+-- What writing answers, and what the packet holds then: refused by 1 where the packet has another length, by 5 where the message breaks the table.
+unfoldable pub writePacket : Message → List ℕ → Outcome (List ℕ)
 writePacket m p =
-    need eqb (length p) packetLength or written 1 p then
-    need keepsTable (fieldsOf m) or written 5 p then
-    written (verdictNumber Done) (packetOf m)
+    need eqb (length p) packetLength or outcome 1 p then
+    need keepsTable (fieldsOf m) or outcome 5 p then
+    outcome (verdictNumber Done) (packetOf m)

@@ -3,13 +3,14 @@ ghost use mathlib.Core.Path.{_≡_};
 ghost use mathlib.Core.List.{[], _∷_};
 ghost use lib.ListN.{length};
 ghost use lib.Seq.{sets};
-ghost use Rattle.wire.specs.Packet.{packetLength, marked, fieldsIn, readPacket, refusalOf, packetWith, withMessage, written, writePacket};
+ghost use Rattle.basics.specs.Outcome.{outcome};
+ghost use Rattle.wire.specs.Packet.{packetLength, marked, fieldsIn, readPacket, refusalOf, packetWith, withMessage, writePacket};
+use basics::Instance;
+use basics::Round;
+use basics::Value;
+use basics::Verdict;
 use messages::Fields;
 use messages::Message;
-use terms::Instance;
-use terms::Round;
-use terms::Value;
-use terms::Verdict;
 
 pub enum Reading {
     Read(Message),
@@ -112,7 +113,7 @@ pub fn put_message(packet: &mut [u8], message: Message)
 
 // For a message of any content: refused by 1 and 5, and a refusal writes nothing.
 pub fn write_packet(packet: &mut [u8], message: Message) -> u32
-    ensures { λ r. ⌜ written r (now (packet .exit)) ≡ writePacket message (now (packet .entry)) ⌝ }
+    ensures { λ r. ⌜ outcome r (now (packet .exit)) ≡ writePacket message (now (packet .entry)) ⌝ }
 {
     if packet.len() != PACKET_LENGTH {
         return 1;
@@ -122,5 +123,5 @@ pub fn write_packet(packet: &mut [u8], message: Message) -> u32
         return 5;
     }
     put_fields(packet, f);
-    terms::verdict_number(Verdict::Done)
+    basics::verdict_number(Verdict::Done)
 }

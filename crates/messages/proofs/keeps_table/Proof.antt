@@ -1,7 +1,7 @@
 -- `messages::keeps_table` meets its contract: each arm is the row of its type, and no type above 4 has one.
 -- Assumes nothing.
 use borrow.Author.Tests.{ne-eqb}
-use Rattle.terms.specs.Ladder.{if_then_else_}
+use Rattle.basics.specs.Ladder.{if_then_else_}
 use Rattle.messages.specs.Table.{tableRow, keepsTable}
 use borrow.Author.Needs.{needs}
 use Rattle.messages.proofs.keeps_table.Statement.{statement}

@@ -1,7 +1,7 @@
 -- `messages::message_of` meets its contract: each return is a case of `messageOf`, by the tests that led there.
 -- Assumes nothing.
 use borrow.Author.Tests.{ne-eqb}
-use Rattle.terms.specs.Ladder.{if_then_else_}
+use Rattle.basics.specs.Ladder.{if_then_else_}
 use Rattle.messages.specs.Message.{messageOf}
 use Rattle.messages.proofs.message_of.Statement.{statement}
 use Rattle.messages.proofs.message_of.Tie as tie

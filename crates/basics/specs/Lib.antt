@@ -1,0 +1,7 @@
+pub mod Ladder
+pub mod Rounds
+pub mod Values
+pub mod Votes
+pub mod Places
+pub mod Verdict
+pub mod Outcome

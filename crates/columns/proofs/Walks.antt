@@ -1,0 +1,52 @@
+-- A walk over the cells from an index on: its next cell, its end, and the walk that judges every cell.
+-- Assumes nothing.
+use Prim.Native.Nat.{ℕ, zero, suc, _+_, _-_, _≤_, _<_}
+use mathlib.Core.Path.{_≡_, refl, sym, ap, _∙_}
+use mathlib.Core.Bool.{Bool, true, false, not}
+use mathlib.Core.List.{List, [], _∷_}
+use native.Mathlib.Omega.{arith}
+use native.Mathlib.Numerals.{add-one}
+use borrow.Author.Tests.{not-true, not-false}
+use Rattle.basics.proofs.Ladder.{and-true}
+use Rattle.columns.specs.Walks.{cellsFrom, every}
+
+module _ {Cell : Type 0} (cellAt : ℕ → Cell) where
+  module _ (index count : ℕ) where
+    -- the cells that are left at an index
+    abbrev pub cellsLeft : List Cell
+    cellsLeft = cellsFrom cellAt index (count - index)
+
+    pub cells-next : index < count → cellsLeft ≡ cellAt index ∷ cellsFrom cellAt (index + 1) (count - (index + 1))
+    unfolding cellsFrom
+    cells-next inside =
+        let more : count - index ≡ suc (count - suc index) = omega arith in
+        ap (cellsFrom cellAt index) more ∙ ap (λ k. cellAt index ∷ cellsFrom cellAt k (count - k)) (sym (add-one index))
+
+    pub cells-end : count ≤ index → cellsLeft ≡ []
+    unfolding cellsFrom
+    cells-end past = let no-more : count - index ≡ 0 = omega arith in ap (cellsFrom cellAt index) no-more
+
+  pub cells-all : (count : ℕ) → cellsFrom cellAt 0 count ≡ cellsLeft 0 count
+  cells-all count = let all : count ≡ count - 0 = omega arith in ap (cellsFrom cellAt 0) all
+
+  module _ (test : Cell → Bool) where
+    module _ (index count : ℕ) where
+      -- the walk that judges every cell goes on from one that passes, and ends at one that does not
+      module _ (inside : index < count) (c : Cell) (c-so : c ≡ cellAt index) (fine : Bool) (fine-so : fine ≡ test c) where
+        pub every-next : not fine ≡ false → every test (cellsLeft index count) ≡ every test (cellsLeft (index + 1) count)
+        unfolding every
+        every-next passes = rw (cells-next index count inside, ← c-so, ← fine-so, not-false fine passes)
+
+        pub every-stops : not fine ≡ true → false ≡ every test (cellsLeft index count)
+        unfolding every
+        every-stops fails = rw (cells-next index count inside, ← c-so, ← fine-so, not-true fine fails)
+
+      pub every-ends : count ≤ index → true ≡ every test (cellsLeft index count)
+      unfolding every
+      every-ends past = rw (cells-end index count past)
+
+    -- where each cell passes, every one does
+    pub every-passes : (index count : ℕ) → ((i : ℕ) → i < index + count → test (cellAt i) ≡ true) → every test (cellsFrom cellAt index count) ≡ true
+    unfolding every cellsFrom
+    every-passes index zero fine = refl
+    every-passes index (suc count) fine = and-true (fine index (omega arith)) (every-passes (suc index) count (λ i below. fine i (omega arith)))
