@@ -1,3 +1,3 @@
+mod Ways
 pub mod Laws
 pub mod Promises
-mod Ways

@@ -1,62 +1,152 @@
--- The promises that are made of every call, for the step over a lent slice: each follows from that of the step over the record, as which a slice of one number is
--- stepped.
+-- The promises of every call, for the primary, in both forms in which its record is lent: it acts or refuses by its numbers, a refusal keeps all, a possible
+-- cell stays possible, and what is sent keeps the packet table; and what a repeated request gets. Each is a theorem of any player, from the facts of this
+-- player's rule.
 -- Assumes nothing.
-use Prim.Native.Nat.{ℕ, zero, suc, _^_, _<_}
-use mathlib.Core.Path.{_≡_, refl, ap}
-use mathlib.Core.Bool.{true, false, false≢true}
+use Prim.Native.Nat.{ℕ, _+_, _<_}
+use mathlib.Core.Path.{_≡_, refl, ap, _∙_, subst}
+use mathlib.Core.Bool.{true, false}
 use mathlib.Core.List.{List, [], _∷_}
 use native.Mathlib.Omega.{arith}
-use lib.ListN.{getD}
-use Rattle.terms.specs.Verdict.{isVerdict, saysSend}
-use Rattle.wire.specs.Packet.{Kept}
-use Rattle.player.specs.Promises.{first, ActsOrRefuses, refuses, acts, NumbersAre, RefusalKeepsAll, PossibleStays, SendsKept, FittingStays}
-use Rattle.player.specs.Step.{Outcome, unchanged}
+use lib.ListN.{length}
+use Rattle.basics.specs.declared.Value.{Value}
+use Rattle.basics.specs.declared.Verdict.the-variants.{ToAcceptors}
+use Rattle.basics.specs.Rounds.{theInstance, theRound}
+use Rattle.basics.specs.Verdict.{verdictNumber, saysSend}
+use Rattle.basics.proofs.Places.{PlacedBy}
+use Rattle.basics.proofs.Rounds.{zero-owned}
+use Rattle.messages.specs.declared.Message.{Message}
+use Rattle.messages.specs.declared.Message.the-variants.{Request, Propose}
+use Rattle.wire.specs.declared.Reading.the-variants.{Read}
+use Rattle.wire.specs.Packet.{readPacket}
+use Rattle.wire.proofs.Laws.{Writable}
+use Rattle.wire.proofs.Widths.{propose-writable, request-value-fits}
+use Rattle.player.specs.Promises.{OneOf, first, packetRefusals, NumbersAre, RefusalKeepsAll, UsesCell, OtherCellsStay, PossibleStays, SendsKept, FittingStays}
+use Rattle.player.proofs.Numbers.{one-of}
+use Rattle.player.proofs.Promises.{RuledBy, NextCell, SendsOnly, next-cell, refusal-keeps-all, numbers-are, other-cells-stay, possible-stays, sends-kept, fitting-stays, tables-hold}
 use Rattle.quorum.specs.declared.Settings.{Settings}
-use Rattle.sequence.specs.declared.Primary.{Primary}
-use Rattle.sequence.specs.Sequence.{thePrimary, possible}
-use Rattle.sequence.proofs.Promises.{refusals, verdicts, primary-numbers-are, primary-refusal-keeps-all, primary-possible-stays, primary-sends-kept, primary-fitting-stays}
-use Rattle.primary.specs.Primary.{lent, lentStep}
-use Rattle.primary.proofs.Laws.{lent-elim}
+use Rattle.quorum.specs.Settings.{allowed}
+use Rattle.quorum.proofs.Laws.{allowed-brings}
+use Rattle.primary_rule.specs.declared.Cell.{Cell}
+use Rattle.primary_rule.specs.Rule.{cell, possible}
+use Rattle.primary_rule.proofs.Laws.{risen-possible, CellFits}
+use Rattle.primary.specs.Primary.{cellAt, withCell, Fitting, place, rule, primary, primaryStep, primaryByReference, primaryRequest}
+use Rattle.primary.proofs.Laws.{allowed-next, cell-there, cell-apart, fitting-at, fitting-with, rule-elim, place-elim, placed-first, proposed, primary-proposes, request-proposes}
 
--- The record that a slice holds.
-abbrev pub recordAt : (next : List ℕ) (index : ℕ) → Primary
-recordAt next index = thePrimary (getD next 0 0)
+-- Order for a packet: 7, 1 to 5, 6, 17, 12. A request names no instance and no sender to judge, so 8 and 9 of the common order never occur.
+abbrev pub refusals : List ℕ
+refusals = packetRefusals (17 ∷ 12 ∷ [])
 
--- Each number of the slice is one of 32 bits.
-abbrev pub SliceFits : List ℕ → Type 0
-SliceFits next = (index : ℕ) → getD next index 0 < 2 ^ 32
+abbrev pub verdicts : List ℕ
+verdicts = verdictNumber ToAcceptors ∷ []
 
-one-fits : (number : ℕ) → number < 2 ^ 32 → SliceFits (number ∷ [])
-one-fits number fits zero = fits
-one-fits number fits (suc index) = omega arith
+-- ---- what is stored and sent
+
+-- a request's value, proposed for an instance of 32 bits, can be written
+pub proposed-writable : (c : Cell) (switch : ℕ) (value : Value) → CellFits c → Writable (Request switch value) → Writable (Propose (c .next) (theRound 0) value)
+proposed-writable c switch value fits asked =
+    propose-writable (c .next) (theRound 0) value (record { instance-fits = fits .next-fits; round-fits = omega arith }) (request-value-fits switch value asked) zero-owned
+
+placed-numbers : (m : Message) → PlacedBy (λ n. OneOf n refusals) (place m)
+placed-numbers m = place-elim (λ n. OneOf n refusals) m (one-of 6 refusals refl)
+
+placed-quiet : (m : Message) → PlacedBy (λ n. saysSend n ≡ false) (place m)
+unfolding saysSend
+placed-quiet m = place-elim (λ n. saysSend n ≡ false) m refl
+
+module _ (N : ℕ) (c : Cell) (m : Message) where
+  ruled-numbers : RuledBy refusals verdicts (rule N c m)
+  ruled-numbers =
+      rule-elim (RuledBy refusals verdicts) N c m (one-of 6 refusals refl) (one-of 17 refusals refl) (one-of 12 refusals refl) (λ switch value _ _. first)
+
+  next-possible : NextCell (λ d. possible N d ≡ true) (rule N c m)
+  next-possible = rule-elim (NextCell (λ d. possible N d ≡ true)) N c m tt tt tt (λ switch value _ below. risen-possible N c below)
+
+  sends-writable : CellFits c → Writable m → SendsOnly Writable (rule N c m)
+  unfolding saysSend
+  sends-writable fits asked =
+      rule-elim (SendsOnly Writable) N c m refl refl refl (λ switch value asks _. proposed-writable c switch value fits (subst Writable asks asked))
+
+-- N bounds what is stored, whatever the cell held
+next-fits : (s : Settings) (c : Cell) (m : Message) → allowed s ≡ true → NextCell CellFits (rule (s .instances) c m)
+next-fits s c m fine =
+    rule-elim (NextCell CellFits) (s .instances) c m tt tt tt
+    (λ switch value _ below. record { next-fits = omega (arith, below, allowed-brings s fine .instances-most) })
+
+-- ---- the record as a slice
 
 module _ (s : Settings) where
-  pub lent-numbers-are : NumbersAre (lentStep s) refusals verdicts
-  lent-numbers-are packet =
-      lent-elim s packet (ActsOrRefuses refusals verdicts packet) (λ next _. refuses first) (λ number. of-record number (primary-numbers-are s packet (thePrimary number)))
-    where
-      of-record : (number : ℕ) {o : Outcome Primary} → ActsOrRefuses refusals verdicts packet (thePrimary number) o
-          → ActsOrRefuses refusals verdicts packet (number ∷ []) (lent o)
-      of-record number (refuses one) = refuses one
-      of-record number (acts one) = acts one
+  pub primary-numbers : NumbersAre (primaryStep s) refusals verdicts
+  unfolding primaryStep primary
+  primary-numbers = numbers-are (primary s) (17 ∷ 12 ∷ []) verdicts placed-numbers (ruled-numbers (s .instances))
 
-  pub lent-refusal-keeps-all : RefusalKeepsAll (lentStep s)
-  lent-refusal-keeps-all packet =
-      lent-elim s packet (λ next o. isVerdict (o .verdict) ≡ false → o ≡ unchanged packet next (o .verdict)) (λ next _ _. refl)
-      (λ number refuses. ap lent (primary-refusal-keeps-all s packet (thePrimary number) refuses))
+  pub primary-refusal-keeps-all : RefusalKeepsAll (primaryStep s)
+  unfolding primaryStep
+  primary-refusal-keeps-all = refusal-keeps-all (primary s)
 
-  pub lent-possible-stays : PossibleStays (lentStep s) recordAt (possible (s .instances))
-  lent-possible-stays packet next index =
-      lent-elim s packet (λ slice o. possible (s .instances) (recordAt slice index) ≡ true → possible (s .instances) (recordAt (o .tables) index) ≡ true)
-      (λ slice _ fine. fine) (λ number. primary-possible-stays s packet (thePrimary number) index) next
+  pub primary-other-cells-stay : OtherCellsStay (primaryStep s) cellAt (UsesCell (primary s))
+  unfolding primaryStep primary
+  primary-other-cells-stay = other-cells-stay (primary s) cell-apart
 
-  pub lent-sends-kept : SendsKept (lentStep s) SliceFits
-  unfolding saysSend
-  lent-sends-kept packet next bytes =
-      lent-elim s packet (λ slice o. SliceFits slice → saysSend (o .verdict) ≡ true → Kept (o .packet)) (λ slice _ _ says. absurd (false≢true says))
-      (λ number fits. primary-sends-kept s packet (thePrimary number) bytes (fits 0)) next
+  pub primary-possible-stays : PossibleStays (primaryStep s) cellAt (possible (s .instances))
+  unfolding primaryStep primary
+  primary-possible-stays =
+      possible-stays (primary s) cell-apart
+      (λ next m index c allowed stands. cell-there next index c (omega (arith, placed-first m index stands, allowed-next s (length next) allowed .sized)))
+      (possible (s .instances)) (λ c m _. next-possible (s .instances) c m)
 
-  pub lent-fitting-stays : FittingStays (lentStep s) SliceFits
-  lent-fitting-stays packet next bytes =
-      lent-elim s packet (λ slice o. SliceFits slice → SliceFits (o .tables)) (λ slice _ fits. fits)
-      (λ number fits. one-fits _ (primary-fitting-stays s packet (thePrimary number) bytes (fits 0))) next
+  pub primary-sends-kept : SendsKept (primaryStep s) Fitting
+  unfolding primaryStep primary
+  primary-sends-kept =
+      sends-kept (primary s) Fitting (λ next m index _ fits asked. sends-writable (s .instances) (cellAt next index) m (fitting-at next index fits) asked) placed-quiet
+
+  pub primary-fitting-stays : FittingStays (primaryStep s) Fitting
+  unfolding primaryStep primary
+  primary-fitting-stays =
+      fitting-stays (primary s) Fitting
+      (λ next m index allowed fits _. next-cell CellFits (λ c. Fitting (withCell next index c)) (λ c. fitting-with next index c fits)
+      (rule (s .instances) (cellAt next index) m) (next-fits s (cellAt next index) m (allowed-next s (length next) allowed .settings-allowed)))
+
+-- ---- the record by reference
+
+module _ (s : Settings) where
+  pub request-numbers : NumbersAre (primaryRequest s) refusals verdicts
+  unfolding primaryRequest primaryByReference
+  request-numbers = numbers-are (primaryByReference s) (17 ∷ 12 ∷ []) verdicts placed-numbers (ruled-numbers (s .instances))
+
+  pub request-refusal-keeps-all : RefusalKeepsAll (primaryRequest s)
+  unfolding primaryRequest
+  request-refusal-keeps-all = refusal-keeps-all (primaryByReference s)
+
+  pub request-possible-stays : PossibleStays (primaryRequest s) (λ c index. c) (possible (s .instances))
+  unfolding primaryRequest primaryByReference
+  request-possible-stays packet c index =
+      tables-hold (primaryByReference s) (λ d. possible (s .instances) d ≡ true) packet c (λ m _ _ _ _ _. next-possible (s .instances) c m)
+
+  pub request-sends-kept : SendsKept (primaryRequest s) CellFits
+  unfolding primaryRequest primaryByReference
+  request-sends-kept = sends-kept (primaryByReference s) CellFits (λ c m _ _ fits asked. sends-writable (s .instances) c m fits asked) placed-quiet
+
+  pub request-fitting-stays : FittingStays (primaryRequest s) CellFits
+  unfolding primaryRequest primaryByReference
+  request-fitting-stays = fitting-stays (primaryByReference s) CellFits (λ c m _ fine _ _. next-fits s c m fine)
+
+-- ---- a repeated request
+
+-- Two steps on the same bytes, the second on the record that the first left: a second instance for the same value.
+module _ (s : Settings) (packet : List ℕ) (next switch : ℕ) (value : Value) (fine : allowed s ≡ true) (reads : readPacket packet ≡ Read (Request switch value))
+    (below : next + 1 < s .instances) where
+  pub repeated-step :
+      (primaryStep s packet (next ∷ []) ≡ proposed next value ((next + 1) ∷ []))
+      × (primaryStep s packet (primaryStep s packet (next ∷ []) .left .tables) ≡ proposed (next + 1) value ((next + 2) ∷ []))
+  repeated-step =
+      let once = primary-proposes s packet switch value fine reads next (omega arith) in
+      let twice = primary-proposes s packet switch value fine reads (next + 1) below in
+      (once, ap (λ o. primaryStep s packet (o .left .tables)) once ∙ twice ∙ ap (λ n. proposed (next + 1) value (n ∷ [])) (omega arith))
+
+  pub repeated-request :
+      (primaryRequest s packet (cell (theInstance next)) ≡ proposed next value (cell (theInstance (next + 1))))
+      × (primaryRequest s packet (primaryRequest s packet (cell (theInstance next)) .left .tables) ≡ proposed (next + 1) value (cell (theInstance (next + 2))))
+  repeated-request =
+      let once = request-proposes s packet switch value fine reads next (omega arith) in
+      let twice = request-proposes s packet switch value fine reads (next + 1) below in
+      (once, ap (λ o. primaryRequest s packet (o .left .tables)) once ∙ twice ∙ ap (λ n. proposed (next + 1) value (cell (theInstance n))) (omega arith))

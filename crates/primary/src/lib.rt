@@ -1,13 +1,86 @@
-// The primary leader: its record is kept by the caller and lent for each request, as a slice of one number or by reference.
+// The primary leader: takes requests at its one cell, the record that its caller keeps and lends for each packet, as a slice of one number or by reference.
 ghost use mathlib.Core.Path.{_≡_};
-ghost use Rattle.player.specs.Step.{outcome};
+ghost use lib.ListN.{length};
+ghost use Rattle.basics.specs.Outcome.{outcome, lent};
+ghost use Rattle.wire.specs.Packet.{packetLength};
+ghost use Rattle.player.specs.Step.{ruled};
 ghost use Rattle.quorum.specs.Settings.{settings};
-ghost use Rattle.sequence.specs.Sequence.{primaryStep};
-ghost use Rattle.primary.specs.Primary.{lentStep};
-use sequence::Primary;
-use terms::Instance;
+ghost use Rattle.primary_rule.specs.Rule.{rulingOf};
+ghost use Rattle.primary.specs.Primary.{isAllowed, primaryStep, primaryRequest};
+use basics::Instance;
+use basics::Verdict;
+use messages::Message;
+use primary_rule::Cell;
+use primary_rule::Ruled;
+use quorum::Settings;
+use wire::Reading;
 
-// The record lent as a slice of one number.
+// Refusal 7 by itself, of the record as a slice: M and N are allowed, and the slice has one number.
+pub fn is_allowed(settings: Settings, next: usize) -> bool
+    ensures { λ r. ⌜ r ≡ isAllowed settings next ⌝ }
+{
+    quorum::settings_allowed(settings) & (next == 1)
+}
+
+// What a step answers, and the cell afterwards.
+struct Stepped {
+    cell: Cell,
+    answer: u32,
+}
+
+// What the rule came to is sent, and the next cell is given back.
+fn carry_out(answer: Ruled, cell: Cell, packet: &mut [u8]) -> Stepped
+    requires { ⌜ length (now packet) ≡ packetLength ⌝ }
+    ensures { λ r.
+        let left = lent (now (packet .exit)) (r .cell) in
+        ⌜ outcome (r .answer) left ≡ ruled (now (packet .entry)) cell (λ next. next) (rulingOf answer) ⌝ }
+{
+    match answer {
+        Ruled::Refused(number) => Stepped {
+            cell,
+            answer: number,
+        },
+        Ruled::Sent {
+            cell: next,
+            message,
+        } => {
+            wire::put_message(packet, message);
+            Stepped {
+                cell: next,
+                answer: basics::verdict_number(Verdict::ToAcceptors),
+            }
+        }
+    }
+}
+
+// The step over the cell by value, which both calls below make. It judges M and N itself, so that the call by reference need not.
+fn step(acceptors: u32, instances: u32, cell: Cell, packet: &mut [u8]) -> Stepped
+    ensures { λ r.
+        let left = lent (now (packet .exit)) (r .cell) in
+        ⌜ outcome (r .answer) left ≡ primaryRequest (settings acceptors instances) (now (packet .entry)) cell ⌝ }
+{
+    if !quorum::settings_allowed(Settings {
+        acceptors,
+        instances,
+    }) {
+        return Stepped { cell, answer: 7 };
+    }
+    let reading = wire::read_packet(packet);
+    let Reading::Read(message) = reading else {
+        return Stepped {
+            cell,
+            answer: wire::refusal(reading),
+        };
+    };
+    let Message::Request { switch: _, value } = message else {
+        return Stepped { cell, answer: 6 };
+    };
+    let answer = primary_rule::take_request(instances, cell, value);
+    carry_out(answer, cell, packet)
+}
+
+// One packet, the record lent as a slice of one number: the verdict or the refusal is answered as a number, and packet and record are left as
+// `primaryStep` says.
 #[no_mangle]
 pub extern "C" fn myrthakel_primary_step(
     acceptors: u32,
@@ -15,31 +88,39 @@ pub extern "C" fn myrthakel_primary_step(
     packet: &mut [u8],
     next: &mut [u32],
 ) -> u32
-    ensures { λ r. ⌜ outcome r (now (packet .exit)) (now (next .exit)) ≡ lentStep (settings acceptors instances) (now (packet .entry)) (now (next .entry)) ⌝ }
+    ensures { λ r.
+        let left = lent (now (packet .exit)) (now (next .exit)) in
+        ⌜ outcome r left ≡ primaryStep (settings acceptors instances) (now (packet .entry)) (now (next .entry)) ⌝ }
 {
-    if next.len() != 1 {
+    let settings = Settings {
+        acceptors,
+        instances,
+    };
+    if !is_allowed(settings, next.len()) {
         return 7;
     }
     let number = next[0];
-    let primary = Primary {
+    let cell = Cell {
         next: Instance(number),
     };
-    let stepped = sequence::step(acceptors, instances, primary, packet);
-    next[0] = stepped.primary.next.0;
+    let stepped = step(acceptors, instances, cell, packet);
+    next[0] = stepped.cell.next.0;
     stepped.answer
 }
 
-// The record lent by reference: one thin call over the step by value.
+// One packet, the record lent by reference: one thin call over the step by value.
 #[no_mangle]
 pub extern "C" fn myrthakel_primary_request(
     acceptors: u32,
     instances: u32,
     packet: &mut [u8],
-    primary: &mut Primary,
+    cell: &mut Cell,
 ) -> u32
-    ensures { λ r. ⌜ outcome r (now (packet .exit)) (now (primary .exit)) ≡ primaryStep (settings acceptors instances) (now (packet .entry)) (now (primary .entry)) ⌝ }
+    ensures { λ r.
+        let left = lent (now (packet .exit)) (now (cell .exit)) in
+        ⌜ outcome r left ≡ primaryRequest (settings acceptors instances) (now (packet .entry)) (now (cell .entry)) ⌝ }
 {
-    let stepped = sequence::step(acceptors, instances, *primary, packet);
-    *primary = stepped.primary;
+    let stepped = step(acceptors, instances, *cell, packet);
+    *cell = stepped.cell;
     stepped.answer
 }
