@@ -1,69 +1,43 @@
--- Acceptor: its lent tables and its step, by the rule of a ballot.
+-- Acceptor: its step, by its rules at the cells of its lent tables.
 -- Assumes nothing.
-use Prim.Native.Nat.{ℕ, _+_, _*_, _^_, _<_}
-use mathlib.Core.Path.{_≡_}
-use mathlib.Core.Bool.{Bool, _&&_}
+use Prim.Native.Nat.{ℕ}
 use mathlib.Core.List.{List}
-use lib.Dec.{eqb, ltb}
-use lib.ListN.{length, replicate}
-use Rattle.terms.specs.Rounds.{none}
-use Rattle.terms.specs.Columns.{roundAt, withRound, valueAt, withValue, Below}
-use Rattle.player.specs.Step.{Outcome, Player, step}
+use Rattle.basics.specs.declared.Place.{Place}
+use Rattle.basics.specs.declared.Place.the-variants.{Nowhere}
+use Rattle.basics.specs.Outcome.{Outcome, Lent}
+use Rattle.basics.specs.Places.{placed}
+use Rattle.messages.specs.declared.Message.{Message}
+use Rattle.player.specs.Step.{Ruling, refused, Player, step}
 use Rattle.quorum.specs.declared.Settings.{Settings}
-use Rattle.quorum.specs.Settings.{allowed}
-use Rattle.ballot.specs.declared.Cell.{Cell}
-use Rattle.ballot.specs.Ballot.{cell, rule, place}
+use Rattle.acceptor_rule.specs.declared.Cell.{Cell}
+use Rattle.acceptor_rule.specs.declared.Ordered.{Ordered}
+use Rattle.acceptor_rule.specs.declared.Ordered.the-variants as ordered
+use Rattle.acceptor_rule.specs.Rule.{orderOf, obey}
+use Rattle.acceptor_tables.specs.Tables.{Tables, cellAt, withCell, acceptorAllowed}
 
--- A round and a vote round for each cell, and a value as two numbers.
-pub record Tables : Type 0 where
-  pub rounds : List ℕ
-  pub voteRounds : List ℕ
-  pub values : List ℕ
+-- Refused by 6 if neither prepare nor propose, by 8 if the instance is not below N.
+abbrev pub placeOf : (N : ℕ) → Ordered → Place
+placeOf N (ordered.Order o) = placed N (o .instance)
+placeOf N ordered.OtherKind = Nowhere 6
 
-abbrev pub tables : (rounds voteRounds values : List ℕ) → Tables
-tables rounds voteRounds values = record { rounds = rounds; voteRounds = voteRounds; values = values }
+abbrev pub ruleOf : (own : ℕ) → Cell → Ordered → Ruling Cell
+ruleOf own c (ordered.Order o) = obey own c o
+ruleOf own c ordered.OtherKind = refused 6
 
-abbrev pub freshTables : (N : ℕ) → Tables
-freshTables N = tables (replicate N 0) (replicate N (none .0)) (replicate (2 * N) 0)
+abbrev pub place : (N : ℕ) → Message → Place
+place N m = placeOf N (orderOf m)
 
-abbrev pub cellAt : Tables → (index : ℕ) → Cell
-cellAt t index = cell (roundAt (t .rounds) index) (roundAt (t .voteRounds) index) (valueAt (t .values) index)
-
-abbrev pub withCell : Tables → (index : ℕ) → Cell → Tables
-withCell t index c =
-    tables (withRound (t .rounds) index (c .round)) (withRound (t .voteRounds) index (c .«vote_round»)) (withValue (t .values) index (c .value))
-
--- The own number is below M, and each table is sized for N.
-unfoldable pub acceptorAllowed : Settings → (own rounds voteRounds values : ℕ) → Bool
-acceptorAllowed s own rounds voteRounds values =
-    allowed s && ltb own (s .acceptors) && eqb rounds (s .instances) && eqb voteRounds (s .instances) && eqb values (2 * s .instances)
+abbrev pub rule : (own : ℕ) → Cell → Message → Ruling Cell
+rule own c m = ruleOf own c (orderOf m)
 
 unfoldable pub acceptor : Settings → (own : ℕ) → Player Tables Cell
 acceptor s own = record {
-  allowed = λ t. acceptorAllowed s own (length (t .rounds)) (length (t .voteRounds)) (length (t .values));
+  allowed = acceptorAllowed s own;
   place = place (s .instances);
   cellAt = cellAt;
   withCell = withCell;
   rule = rule own;
 }
 
-unfoldable pub acceptorStep : Settings → (own : ℕ) → (packet : List ℕ) → Tables → Outcome Tables
+unfoldable pub acceptorStep : Settings → (own : ℕ) → (packet : List ℕ) → Tables → Outcome (Lent Tables)
 acceptorStep s own = step (acceptor s own)
-
--- The tables have n cells each.
-pub record Sized (n : ℕ) (t : Tables) : Type 0 where
-  pub of-rounds : length (t .rounds) ≡ n
-  pub of-vote-rounds : length (t .voteRounds) ≡ n
-  pub of-values : length (t .values) ≡ 2 * n
-
--- The cell at the index is within each table.
-pub record Within (t : Tables) (index : ℕ) : Type 0 where
-  pub in-rounds : index < length (t .rounds)
-  pub in-vote-rounds : index < length (t .voteRounds)
-  pub in-values : 2 * index + 1 < length (t .values)
-
--- The numbers of the tables fit their widths, as those of lent slices do.
-pub record Fitting (t : Tables) : Type 0 where
-  pub fitting-rounds : Below (2 ^ 32) (t .rounds)
-  pub fitting-vote-rounds : Below (2 ^ 32) (t .voteRounds)
-  pub fitting-values : Below (2 ^ 64) (t .values)

@@ -1,36 +1,22 @@
 // The acceptor: obeys prepares and proposes at the cells of its lent tables.
 ghost use mathlib.Core.Path.{_≡_};
 ghost use lib.ListN.{length};
+ghost use Rattle.basics.specs.Outcome.{outcome, lent};
 ghost use Rattle.wire.specs.Packet.{packetLength};
-ghost use Rattle.player.specs.Step.{outcome, ruled};
+ghost use Rattle.player.specs.Step.{ruled};
 ghost use Rattle.quorum.specs.Settings.{settings};
-ghost use Rattle.ballot.specs.Ballot.{rulingOf};
-ghost use Rattle.acceptor.specs.Acceptor.{tables, cellAt, withCell, acceptorAllowed, acceptorStep, Within};
-use ballot::Cell;
-use ballot::Ruled;
+ghost use Rattle.acceptor_rule.specs.Rule.{rulingOf};
+ghost use Rattle.acceptor_tables.specs.Tables.{tables, cellAt, withCell, Within};
+ghost use Rattle.acceptor.specs.Acceptor.{acceptorStep};
+use acceptor_rule::Cell;
+use acceptor_rule::Ordered;
+use acceptor_rule::Ruled;
+use basics::Place;
+use basics::Round;
+use basics::Value;
+use basics::Verdict;
 use quorum::Settings;
-use terms::Place;
-use terms::Round;
-use terms::Value;
-use terms::Verdict;
 use wire::Reading;
-
-fn is_allowed(
-    settings: Settings,
-    own: u32,
-    rounds: usize,
-    vote_rounds: usize,
-    values: usize,
-) -> bool
-    ensures { λ r. ⌜ r ≡ acceptorAllowed settings own rounds «vote_rounds» values ⌝ }
-{
-    let count = settings.instances as usize;
-    quorum::settings_allowed(settings)
-        & (own < settings.acceptors)
-        & (rounds == count)
-        & (vote_rounds == count)
-        & (values == 2 * count)
-}
 
 fn cell_at(rounds: &[u32], vote_rounds: &[u32], values: &[u64], index: usize) -> Cell
     requires { ⌜ Within (tables (now rounds) (now «vote_rounds») (now values)) index ⌝ }
@@ -55,7 +41,10 @@ fn store_cell(
     cell: Cell,
 )
     requires { ⌜ Within (tables (now rounds) (now «vote_rounds») (now values)) index ⌝ }
-    ensures { λ r. ⌜ tables (now (rounds .exit)) (now («vote_rounds» .exit)) (now (values .exit)) ≡ withCell (tables (now (rounds .entry)) (now («vote_rounds» .entry)) (now (values .entry))) index cell ⌝ }
+    ensures { λ r.
+        let before = tables (now (rounds .entry)) (now («vote_rounds» .entry)) (now (values .entry)) in
+        let after = tables (now (rounds .exit)) (now («vote_rounds» .exit)) (now (values .exit)) in
+        ⌜ after ≡ withCell before index cell ⌝ }
 {
     let high = 2 * index;
     rounds[index] = cell.round.0;
@@ -76,19 +65,22 @@ fn carry_out(
 ) -> u32
     requires inside { ⌜ Within (tables (now rounds) (now «vote_rounds») (now values)) index ⌝ }
     requires long { ⌜ length (now packet) ≡ packetLength ⌝ }
-    ensures { λ r. ⌜ outcome r (now (packet .exit)) (tables (now (rounds .exit)) (now («vote_rounds» .exit)) (now (values .exit))) ≡ ruled (now (packet .entry)) (tables (now (rounds .entry)) (now («vote_rounds» .entry)) (now (values .entry))) (withCell (tables (now (rounds .entry)) (now («vote_rounds» .entry)) (now (values .entry))) index) (rulingOf answer) ⌝ }
+    ensures { λ r.
+        let before = tables (now (rounds .entry)) (now («vote_rounds» .entry)) (now (values .entry)) in
+        let after = tables (now (rounds .exit)) (now («vote_rounds» .exit)) (now (values .exit)) in
+        ⌜ outcome r (lent (now (packet .exit)) after) ≡ ruled (now (packet .entry)) before (withCell before index) (rulingOf answer) ⌝ }
 {
     match answer {
         Ruled::Refused(number) => number,
         Ruled::Promised { cell, message } => {
             store_cell(rounds, vote_rounds, values, index, cell);
             wire::put_message(packet, message);
-            terms::verdict_number(Verdict::ToLeader)
+            basics::verdict_number(Verdict::ToLeader)
         }
         Ruled::Voted { cell, message } => {
             wire::put_message(packet, message);
             store_cell(rounds, vote_rounds, values, index, cell);
-            terms::verdict_number(Verdict::ToLearners)
+            basics::verdict_number(Verdict::ToLearners)
         }
     }
 }
@@ -104,24 +96,31 @@ pub extern "C" fn myrthakel_acceptor_step(
     vote_rounds: &mut [u32],
     values: &mut [u64],
 ) -> u32
-    ensures { λ r. ⌜ outcome r (now (packet .exit)) (tables (now (rounds .exit)) (now («vote_rounds» .exit)) (now (values .exit))) ≡ acceptorStep (settings acceptors instances) own (now (packet .entry)) (tables (now (rounds .entry)) (now («vote_rounds» .entry)) (now (values .entry))) ⌝ }
+    ensures { λ r.
+        let before = tables (now (rounds .entry)) (now («vote_rounds» .entry)) (now (values .entry)) in
+        let after = tables (now (rounds .exit)) (now («vote_rounds» .exit)) (now (values .exit)) in
+        ⌜ outcome r (lent (now (packet .exit)) after) ≡ acceptorStep (settings acceptors instances) own (now (packet .entry)) before ⌝ }
 {
     let settings = Settings {
         acceptors,
         instances,
     };
-    if !is_allowed(settings, own, rounds.len(), vote_rounds.len(), values.len()) {
+    if !acceptor_tables::is_allowed(settings, own, rounds.len(), vote_rounds.len(), values.len()) {
         return 7;
     }
     let reading = wire::read_packet(packet);
     let Reading::Read(message) = reading else {
         return wire::refusal(reading);
     };
-    let place = ballot::place_of(instances, message);
+    let ordered = acceptor_rule::order_of(message);
+    let Ordered::Order(order) = ordered else {
+        return 6;
+    };
+    let place = basics::place_of(instances, order.instance);
     let Place::At(index) = place else {
-        return terms::nowhere(place);
+        return basics::nowhere(place);
     };
     let cell = cell_at(rounds, vote_rounds, values, index);
-    let answer = ballot::obey(own as u16, cell, message);
+    let answer = acceptor_rule::obey(own as u16, cell, order);
     carry_out(answer, packet, rounds, vote_rounds, values, index)
 }

@@ -1,8 +1,8 @@
 -- `acceptor::carry_out` meets its contract: each arm knows what the rule came to, and stores and sends that.
 -- Assumes nothing.
 use mathlib.Core.Path.{ap}
-use Rattle.terms.specs.declared.Verdict.the-variants.{ToLeader, ToLearners}
-use Rattle.ballot.specs.Ballot.{rulingOf}
+use Rattle.basics.specs.declared.Verdict.the-variants.{ToLeader, ToLearners}
+use Rattle.acceptor_rule.specs.Rule.{rulingOf}
 use Rattle.acceptor.proofs.Ways.{carried-refused, carried-sent}
 use borrow.Author.Needs.{needs}
 use Rattle.acceptor.proofs.carry_out.Statement.{statement}
@@ -52,10 +52,12 @@ same-length-4 c = search needs
 
 returns-2 : tie.Need-returns-2
 returns-2 c =
-    let stored = c .before .before .before .before .before .before .before .before .before .before .before in
+    let put = c .before .before .before in
+    let stored = put .before .before .before .before .before .before .before .before in
     let known = stored .before .before .before .before .before in
     let start = known .before .before .before .before .before .before in
-    carried-sent _ _ _ (start .args .answer) ToLeader _ _ _ _ _ (ap rulingOf (known .answer2 .given .1)) (start .pre .1) (c .verdict-number .ensures) (c .before .before .before .put-message .ensures) (stored .store-cell .ensures)
+    carried-sent _ _ _ (start .args .answer) ToLeader _ _ _ _ _ (ap rulingOf (known .answer2 .given .1)) (start .pre .1) (c .verdict-number .ensures)
+    (put .put-message .ensures) (stored .store-cell .ensures)
 
 same-length-5 : tie.Need-same-length-5
 same-length-5 c = search needs
@@ -71,9 +73,12 @@ same-length-8 c = search needs
 
 returns-3 : tie.Need-returns-3
 returns-3 c =
-    let known = c .before .before .before .before .before .before .before .before .before .before .before .before .before .before .before .before in
+    let stored = c .before .before .before .before .before .before .before in
+    let put = stored .before .before .before .before .before .before in
+    let known = put .before .before .before in
     let start = known .before .before .before .before .before .before in
-    carried-sent _ _ _ (start .args .answer) ToLearners _ _ _ _ _ (ap rulingOf (known .answer3 .given .1)) (start .pre .1) (c .verdict-number2 .ensures) (c .before .before .before .before .before .before .before .before .before .before .before .before .before .put-message2 .ensures) (c .before .before .before .before .before .before .before .store-cell2 .ensures)
+    carried-sent _ _ _ (start .args .answer) ToLearners _ _ _ _ _ (ap rulingOf (known .answer3 .given .1)) (start .pre .1) (c .verdict-number2 .ensures)
+    (put .put-message2 .ensures) (stored .store-cell2 .ensures)
 
 pub carry-out-spec : {M : Type 1} → statement M
 carry-out-spec =
