@@ -1,2 +1,3 @@
-pub mod Ways
+mod Ways
+pub mod Laws
 pub mod Promises

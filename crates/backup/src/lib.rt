@@ -1,98 +1,25 @@
 // A backup leader: started by hand, it asks the acceptors for promises, and at a majority proposes.
 ghost use mathlib.Core.Path.{_≡_};
 ghost use lib.ListN.{length};
-ghost use Rattle.terms.specs.Rounds.{theInstance};
-ghost use Rattle.terms.specs.Values.{theValue};
+ghost use Rattle.basics.specs.Outcome.{outcome, lent};
+ghost use Rattle.basics.specs.Rounds.{theInstance};
+ghost use Rattle.basics.specs.Values.{theValue};
 ghost use Rattle.wire.specs.Packet.{packetLength};
-ghost use Rattle.player.specs.Step.{outcome, ruled};
+ghost use Rattle.player.specs.Step.{ruled};
 ghost use Rattle.quorum.specs.Settings.{settings};
-ghost use Rattle.takeover.specs.Takeover.{rulingOf};
-ghost use Rattle.backup.specs.Backup.{tables, cellAt, withCell, sizesAllowed, backupStep, backupStart, Within};
-use bid::Cell;
+ghost use Rattle.backup_rule.specs.Rule.{rulingOf};
+ghost use Rattle.backup_tables.specs.Tables.{tables, withCell};
+ghost use Rattle.backup.specs.Backup.{backupStep, backupStart};
+use backup_rule::Ruled;
+use basics::Instance;
+use basics::Place;
+use basics::Value;
+use basics::Verdict;
 use messages::Message;
 use quorum::Settings;
-use takeover::Ruled;
-use terms::Instance;
-use terms::Place;
-use terms::Round;
-use terms::Value;
-use terms::Verdict;
 use wire::Reading;
 
-fn sizes_allowed(
-    instances: u32,
-    rounds: usize,
-    phases: usize,
-    sets: usize,
-    best_vote_rounds: usize,
-    best_values: usize,
-    own_values: usize,
-) -> bool
-    ensures { λ r. ⌜ r ≡ sizesAllowed instances rounds phases sets «best_vote_rounds» «best_values» «own_values» ⌝ }
-{
-    let count = instances as usize;
-    (rounds == count)
-        & (phases == count)
-        & (sets == count)
-        & (best_vote_rounds == count)
-        & (best_values == 2 * count)
-        & (own_values == 2 * count)
-}
-
-fn cell_at(
-    rounds: &[u32],
-    phases: &[u8],
-    sets: &[u8],
-    best_vote_rounds: &[u32],
-    best_values: &[u64],
-    own_values: &[u64],
-    index: usize,
-) -> Cell
-    requires { ⌜ Within (tables (now rounds) (now phases) (now sets) (now «best_vote_rounds») (now «best_values») (now «own_values»)) index ⌝ }
-    ensures { λ r. ⌜ r ≡ cellAt (tables (now (rounds .entry)) (now (phases .entry)) (now (sets .entry)) (now («best_vote_rounds» .entry)) (now («best_values» .entry)) (now («own_values» .entry))) index ⌝ }
-{
-    let high = 2 * index;
-    Cell {
-        round: Round(rounds[index]),
-        phase: phases[index],
-        set: sets[index],
-        best_vote_round: Round(best_vote_rounds[index]),
-        best_value: Value {
-            high: best_values[high],
-            low: best_values[high + 1],
-        },
-        own_value: Value {
-            high: own_values[high],
-            low: own_values[high + 1],
-        },
-    }
-}
-
-fn store_cell(
-    rounds: &mut [u32],
-    phases: &mut [u8],
-    sets: &mut [u8],
-    best_vote_rounds: &mut [u32],
-    best_values: &mut [u64],
-    own_values: &mut [u64],
-    index: usize,
-    cell: Cell,
-)
-    requires { ⌜ Within (tables (now rounds) (now phases) (now sets) (now «best_vote_rounds») (now «best_values») (now «own_values»)) index ⌝ }
-    ensures { λ r. ⌜ tables (now (rounds .exit)) (now (phases .exit)) (now (sets .exit)) (now («best_vote_rounds» .exit)) (now («best_values» .exit)) (now («own_values» .exit)) ≡ withCell (tables (now (rounds .entry)) (now (phases .entry)) (now (sets .entry)) (now («best_vote_rounds» .entry)) (now («best_values» .entry)) (now («own_values» .entry))) index cell ⌝ }
-{
-    let high = 2 * index;
-    rounds[index] = cell.round.0;
-    phases[index] = cell.phase;
-    sets[index] = cell.set;
-    best_vote_rounds[index] = cell.best_vote_round.0;
-    best_values[high] = cell.best_value.high;
-    best_values[high + 1] = cell.best_value.low;
-    own_values[high] = cell.own_value.high;
-    own_values[high + 1] = cell.own_value.low;
-}
-
-// What the rules came to is stored and sent.
+// What a rule came to is stored and sent, for both calls.
 fn carry_out(
     answer: Ruled,
     packet: &mut [u8],
@@ -104,14 +31,18 @@ fn carry_out(
     own_values: &mut [u64],
     index: usize,
 ) -> u32
-    requires inside { ⌜ Within (tables (now rounds) (now phases) (now sets) (now «best_vote_rounds») (now «best_values») (now «own_values»)) index ⌝ }
-    requires long { ⌜ length (now packet) ≡ packetLength ⌝ }
-    ensures { λ r. ⌜ outcome r (now (packet .exit)) (tables (now (rounds .exit)) (now (phases .exit)) (now (sets .exit)) (now («best_vote_rounds» .exit)) (now («best_values» .exit)) (now («own_values» .exit))) ≡ ruled (now (packet .entry)) (tables (now (rounds .entry)) (now (phases .entry)) (now (sets .entry)) (now («best_vote_rounds» .entry)) (now («best_values» .entry)) (now («own_values» .entry))) (withCell (tables (now (rounds .entry)) (now (phases .entry)) (now (sets .entry)) (now («best_vote_rounds» .entry)) (now («best_values» .entry)) (now («own_values» .entry))) index) (rulingOf answer) ⌝ }
+    requires { ⌜ length (now packet) ≡ packetLength ⌝ }
+    ensures { λ r.
+        let before = tables (now (rounds .entry)) (now (phases .entry)) (now (sets .entry)) (now («best_vote_rounds» .entry)) (now («best_values» .entry))
+        (now («own_values» .entry)) in
+        let after = tables (now (rounds .exit)) (now (phases .exit)) (now (sets .exit)) (now («best_vote_rounds» .exit)) (now («best_values» .exit))
+        (now («own_values» .exit)) in
+        ⌜ outcome r (lent (now (packet .exit)) after) ≡ ruled (now (packet .entry)) before (withCell before index) (rulingOf answer) ⌝ }
 {
     match answer {
         Ruled::Refused(number) => number,
         Ruled::Held { cell } => {
-            store_cell(
+            backup_tables::store_cell(
                 rounds,
                 phases,
                 sets,
@@ -121,10 +52,10 @@ fn carry_out(
                 index,
                 cell,
             );
-            terms::verdict_number(Verdict::Hold)
+            basics::verdict_number(Verdict::Hold)
         }
         Ruled::Sent { cell, message } => {
-            store_cell(
+            backup_tables::store_cell(
                 rounds,
                 phases,
                 sets,
@@ -135,7 +66,7 @@ fn carry_out(
                 cell,
             );
             wire::put_message(packet, message);
-            terms::verdict_number(Verdict::ToAcceptors)
+            basics::verdict_number(Verdict::ToAcceptors)
         }
     }
 }
@@ -160,32 +91,38 @@ pub extern "C" fn myrthakel_backup_start(
     best_values: &mut [u64],
     own_values: &mut [u64],
 ) -> u32
-    ensures { λ r. ⌜ outcome r (now (buffer .exit)) (tables (now (rounds .exit)) (now (phases .exit)) (now (sets .exit)) (now («best_vote_rounds» .exit)) (now («best_values» .exit)) (now («own_values» .exit))) ≡ backupStart (settings acceptors instances) own (theInstance instance) floor (theValue «value_high» «value_low») (now (buffer .entry)) (tables (now (rounds .entry)) (now (phases .entry)) (now (sets .entry)) (now («best_vote_rounds» .entry)) (now («best_values» .entry)) (now («own_values» .entry))) ⌝ }
+    ensures { λ r.
+        let before = tables (now (rounds .entry)) (now (phases .entry)) (now (sets .entry)) (now («best_vote_rounds» .entry)) (now («best_values» .entry))
+        (now («own_values» .entry)) in
+        let after = tables (now (rounds .exit)) (now (phases .exit)) (now (sets .exit)) (now («best_vote_rounds» .exit)) (now («best_values» .exit))
+        (now («own_values» .exit)) in
+        ⌜ outcome r (lent (now (buffer .exit)) after)
+        ≡ backupStart (settings acceptors instances) own (theInstance instance) floor (theValue «value_high» «value_low») (now (buffer .entry)) before ⌝ }
 {
     let settings = Settings {
         acceptors,
         instances,
     };
-    if !(bid::own_allowed(settings, own)
-        & sizes_allowed(
-            instances,
-            rounds.len(),
-            phases.len(),
-            sets.len(),
-            best_vote_rounds.len(),
-            best_values.len(),
-            own_values.len(),
-        )) {
+    if !backup_tables::is_allowed(
+        settings,
+        own,
+        rounds.len(),
+        phases.len(),
+        sets.len(),
+        best_vote_rounds.len(),
+        best_values.len(),
+        own_values.len(),
+    ) {
         return 7;
     }
     if buffer.len() != wire::PACKET_LENGTH {
         return 1;
     }
-    let place = terms::place_of(instances, Instance(instance));
+    let place = basics::place_of(instances, Instance(instance));
     let Place::At(index) = place else {
-        return terms::nowhere(place);
+        return basics::nowhere(place);
     };
-    let cell = cell_at(
+    let cell = backup_tables::cell_at(
         rounds,
         phases,
         sets,
@@ -198,7 +135,7 @@ pub extern "C" fn myrthakel_backup_start(
         high: value_high,
         low: value_low,
     };
-    let answer = takeover::start_cell(
+    let answer = backup_rule::start(
         acceptors,
         own as u16,
         cell,
@@ -233,22 +170,27 @@ pub extern "C" fn myrthakel_backup_step(
     best_values: &mut [u64],
     own_values: &mut [u64],
 ) -> u32
-    ensures { λ r. ⌜ outcome r (now (packet .exit)) (tables (now (rounds .exit)) (now (phases .exit)) (now (sets .exit)) (now («best_vote_rounds» .exit)) (now («best_values» .exit)) (now («own_values» .exit))) ≡ backupStep (settings acceptors instances) own (now (packet .entry)) (tables (now (rounds .entry)) (now (phases .entry)) (now (sets .entry)) (now («best_vote_rounds» .entry)) (now («best_values» .entry)) (now («own_values» .entry))) ⌝ }
+    ensures { λ r.
+        let before = tables (now (rounds .entry)) (now (phases .entry)) (now (sets .entry)) (now («best_vote_rounds» .entry)) (now («best_values» .entry))
+        (now («own_values» .entry)) in
+        let after = tables (now (rounds .exit)) (now (phases .exit)) (now (sets .exit)) (now («best_vote_rounds» .exit)) (now («best_values» .exit))
+        (now («own_values» .exit)) in
+        ⌜ outcome r (lent (now (packet .exit)) after) ≡ backupStep (settings acceptors instances) own (now (packet .entry)) before ⌝ }
 {
     let settings = Settings {
         acceptors,
         instances,
     };
-    if !(bid::own_allowed(settings, own)
-        & sizes_allowed(
-            instances,
-            rounds.len(),
-            phases.len(),
-            sets.len(),
-            best_vote_rounds.len(),
-            best_values.len(),
-            own_values.len(),
-        )) {
+    if !backup_tables::is_allowed(
+        settings,
+        own,
+        rounds.len(),
+        phases.len(),
+        sets.len(),
+        best_vote_rounds.len(),
+        best_values.len(),
+        own_values.len(),
+    ) {
         return 7;
     }
     let reading = wire::read_packet(packet);
@@ -265,11 +207,11 @@ pub extern "C" fn myrthakel_backup_step(
     else {
         return 6;
     };
-    let place = terms::place_of(instances, instance);
+    let place = basics::place_of(instances, instance);
     let Place::At(index) = place else {
-        return terms::nowhere(place);
+        return basics::nowhere(place);
     };
-    let cell = cell_at(
+    let cell = backup_tables::cell_at(
         rounds,
         phases,
         sets,
@@ -278,7 +220,7 @@ pub extern "C" fn myrthakel_backup_step(
         own_values,
         index,
     );
-    let answer = takeover::take_promise(
+    let answer = backup_rule::take_promise(
         acceptors,
         own as u16,
         cell,

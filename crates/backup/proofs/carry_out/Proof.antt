@@ -1,9 +1,17 @@
--- `backup::carry_out` meets its contract: each arm knows what the rules came to, and stores and sends that.
+-- `backup::carry_out` meets its contract: each arm knows what the rule came to, and stores and sends that.
 -- Assumes nothing.
+use denote.Ref.{now}
+use Rattle.backup_tables.specs.Tables.{Tables, tables}
 use Rattle.backup.proofs.Ways.{carried-refused, carried-held, carried-sent}
 use borrow.Author.Needs.{needs}
 use Rattle.backup.proofs.carry_out.Statement.{statement}
 use Rattle.backup.proofs.carry_out.Tie as tie
+
+-- the tables as they were lent
+abbrev lent-tables : tie.Start → Tables
+lent-tables start =
+    let a = start .args in
+    tables (now (a .rounds)) (now (a .phases)) (now (a .sets)) (now (a .best-vote-rounds)) (now (a .best-values)) (now (a .own-values))
 
 enum-known-answer : tie.Need-enum-known-answer
 enum-known-answer c = search needs
@@ -53,7 +61,9 @@ same-length-6 c = search needs
 returns-2 : tie.Need-returns-2
 returns-2 c =
     let stored = c .before .before .before .before .before .before .before .before .before .before .before .before .before in
-    carried-held _ _ _ _ _ _ _ (stored .before .before .before .before .before .before .before .before .answer2 .given .1) (c .verdict-number .ensures) (stored .store-cell .ensures)
+    let known = stored .before .before .before .before .before .before .before .before in
+    let start = known .before .before .before .before .before .before .before .before .before in
+    carried-held _ (lent-tables start) _ _ _ _ _ (known .answer2 .given .1) (c .verdict-number .ensures) (stored .store-cell .ensures)
 
 same-length-7 : tie.Need-same-length-7
 same-length-7 c = search needs
@@ -79,8 +89,10 @@ same-length-13 c = search needs
 returns-3 : tie.Need-returns-3
 returns-3 c =
     let stored = c .before .before .before .before .before .before .before .before .before .before .before .before .before .before .before .before .before in
-    let start = stored .before .before .before .before .before .before .before .before .before .before .before .before .before .before .before .before .before in
-    carried-sent _ _ _ _ _ _ _ _ _ (stored .before .before .before .before .before .before .before .before .answer3 .given .1) (start .pre .1) (c .verdict-number2 .ensures) (c .before .before .before .put-message .ensures) (stored .store-cell2 .ensures)
+    let known = stored .before .before .before .before .before .before .before .before in
+    let start = known .before .before .before .before .before .before .before .before .before in
+    carried-sent _ (lent-tables start) _ _ _ _ _ _ _ (known .answer3 .given .1) (start .pre) (c .verdict-number2 .ensures) (c .before .before .before .put-message .ensures)
+    (stored .store-cell2 .ensures)
 
 pub carry-out-spec : {M : Type 1} → statement M
 carry-out-spec =

@@ -1,40 +1,29 @@
 -- `backup::myrthakel_backup_step` meets its contract: each return is a way out of `backupStep`.
 -- Assumes nothing.
-use mathlib.Core.Path.{sym, _∙_}
 use denote.Ref.{now}
-use Rattle.wire.proofs.Laws.{read-length}
+use mathlib.Core.Path.{sym, _∙_}
 use native.Mathlib.Omega.{arith}
+use Rattle.wire.proofs.Laws.{read-length}
 use Rattle.quorum.specs.Settings.{settings}
-use Rattle.backup.specs.Backup.{tables, Within}
-use Rattle.backup.proofs.Ways.{Allowed, brings, cell-within, step-7, malformed, step-6, step-nowhere, step-there}
+use Rattle.backup_tables.specs.Tables.{Tables, tables}
+use Rattle.backup.proofs.Ways.{brings, step-7, malformed, step-6, step-nowhere, step-there}
 use borrow.Author.Needs.{needs}
 use Rattle.backup.proofs.myrthakel_backup_step.Statement.{statement}
 use Rattle.backup.proofs.myrthakel_backup_step.Tie as tie
 
--- what is known once the cell has its place: settings, own number and tables are allowed,
-allowed-there : (c : tie.After-known-told3) →
-    let a = c .before .before .before .before .before .before .before .before .before .before .before .before .before .before .before .before .before .before .before .before .before .before .args in
-    Allowed (settings (a .acceptors) (a .instances)) (a .own) (tables (now (a .rounds)) (now (a .phases)) (now (a .sets)) (now (a .best-vote-rounds)) (now (a .best-values)) (now (a .own-values)))
-allowed-there c =
-    let a = c .before .before .before .before .before .before .before .before .before .before .before .before .before .before .before .before .before .before .before .before .before .before .args in
-    brings _ _ (now (a .packet)) _ _ _ (c .before .before .before .before .before .before .before .before .before .before .before .before .before .before .own-allowed .ensures) (c .before .before .before .before .before .before .before .before .before .before .before .before .before .sizes-allowed .ensures) (c .before .before .before .before .before .before .before .before .before .before .before .before .if1 .left)
+-- the tables as they were lent
+abbrev lent-tables : tie.Start → Tables
+lent-tables start =
+    let a = start .args in
+    tables (now (a .rounds)) (now (a .phases)) (now (a .sets)) (now (a .best-vote-rounds)) (now (a .best-values)) (now (a .own-values))
 
--- and the cell is within the tables
-within : (c : tie.After-known-told3) →
-    let a = c .before .before .before .before .before .before .before .before .before .before .before .before .before .before .before .before .before .before .before .before .before .before .args in
-    Within (tables (now (a .rounds)) (now (a .phases)) (now (a .sets)) (now (a .best-vote-rounds)) (now (a .best-values)) (now (a .own-values))) (c .before .place .given .0 .0)
-within c =
-    let a = c .before .before .before .before .before .before .before .before .before .before .before .before .before .before .before .before .before .before .before .before .before .before .args in
-    cell-within _ _ (now (a .packet)) _ _ _ (c .before .before .before .before .before .before .before .before .before .before .before .before .before .before .own-allowed .ensures) (c .before .before .before .before .before .before .before .before .before .before .before .before .before .sizes-allowed .ensures) (c .before .before .before .before .before .before .before .before .before .before .before .before .if1 .left) _ _ _ (c .before .before .before .place-of .ensures) (c .before .place .given .1)
-
-own-allowed-requires : tie.Need-own-allowed-requires
-own-allowed-requires c κs = search needs
-
-sizes-allowed-requires : tie.Need-sizes-allowed-requires
-sizes-allowed-requires c κs = search needs
+is-allowed-requires : tie.Need-is-allowed-requires
+is-allowed-requires c κs = search needs
 
 returns : tie.Need-returns
-returns c = step-7 _ _ _ _ _ _ (c .before .before .own-allowed .ensures) (c .before .sizes-allowed .ensures) (c .if1 .taken)
+returns c =
+    let start = c .before .before .before .before .before .before .before .before .before in
+    step-7 _ _ _ (lent-tables start) _ (c .before .is-allowed .ensures) (c .if1 .taken)
 
 read-packet-requires : tie.Need-read-packet-requires
 read-packet-requires c κs = search needs
@@ -52,7 +41,12 @@ same-length : tie.Need-same-length
 same-length c = search needs
 
 returns-2 : tie.Need-returns-2
-returns-2 c = malformed _ _ _ _ _ _ (c .before .before .before .before .before .before .before .own-allowed .ensures) (c .before .before .before .before .before .before .sizes-allowed .ensures) (c .before .before .before .before .before .if1 .left) _ (c .before .before .before .read-packet .ensures) _ _ (c .before .enum-told .given .1) (c .refusal .ensures)
+returns-2 c =
+    let read = c .before .before .before in
+    let allowed = read .before .before in
+    let start = allowed .before .before .before .before .before .before .before .before .before in
+    malformed _ _ _ (lent-tables start) _ (allowed .before .is-allowed .ensures) (allowed .if1 .left) _ (read .read-packet .ensures) _ _ (c .before .enum-told .given .1)
+    (c .refusal .ensures)
 
 enum-known-message : tie.Need-enum-known-message
 enum-known-message c = search needs
@@ -61,7 +55,12 @@ same-length-2 : tie.Need-same-length-2
 same-length-2 c = search needs
 
 returns-3 : tie.Need-returns-3
-returns-3 c = step-6 _ _ _ _ _ _ (c .before .before .before .before .before .before .before .before .own-allowed .ensures) (c .before .before .before .before .before .before .before .sizes-allowed .ensures) (c .before .before .before .before .before .before .if1 .left) _ (c .before .before .before .before .read-packet .ensures) _ (c .before .before .reading .given .1) (c .match2 .keys2)
+returns-3 c =
+    let reading = c .before .before in
+    let allowed = reading .before .before .before .before in
+    let start = allowed .before .before .before .before .before .before .before .before .before in
+    step-6 _ _ _ (lent-tables start) _ (allowed .before .is-allowed .ensures) (allowed .if1 .left) _ (reading .before .before .read-packet .ensures) _ (reading .reading .given .1)
+    (c .match2 .keys2)
 
 place-of-requires : tie.Need-place-of-requires
 place-of-requires c κs = search needs
@@ -80,24 +79,32 @@ same-length-3 c = search needs
 
 returns-4 : tie.Need-returns-4
 returns-4 c =
-    let read = c .before .before .before .before .before .before .before .before .before .before .before .before in
-    step-nowhere _ _ _ _ _ _ (read .before .before .own-allowed .ensures) (read .before .sizes-allowed .ensures) (read .if1 .left) _ (c .before .before .before .before .before .before .before .before .before .before .read-packet .ensures) _ (c .before .before .before .before .before .before .before .before .reading .given .1)
-    _ _ _ _ _ (c .before .before .before .before .before .message .given .1) _ (c .before .before .before .place-of .ensures) _ _ (c .before .enum-told2 .given .1) (c .nowhere .ensures)
+    let promised = c .before .before .before .before .before in
+    let reading = promised .before .before .before in
+    let allowed = reading .before .before .before .before in
+    let start = allowed .before .before .before .before .before .before .before .before .before in
+    step-nowhere _ _ _ (lent-tables start) _ (allowed .before .is-allowed .ensures) (allowed .if1 .left) _ (reading .before .before .read-packet .ensures) _ (reading .reading .given .1)
+    _ _ _ _ _ (promised .message .given .1) _ (c .before .before .before .place-of .ensures) _ _ (c .before .enum-told2 .given .1) (c .nowhere .ensures)
 
 cell-at-requires : tie.Need-cell-at-requires
-cell-at-requires c κs = within (c .before .before .before .before .before .before)
+cell-at-requires c κs = search needs
 
 cast-take-promise : tie.Need-cast-take-promise
-cast-take-promise c = omega (arith, allowed-there (c .before .before .before .before .before .before .before) .own-most)
+cast-take-promise c =
+    let allowed = c .before .before .before .before .before .before .before .before .before .before .before .before .before .before .before .before .before .before .before in
+    let start = allowed .before .before .before .before .before .before .before .before .before in
+    let a = start .args in
+    let brought = brings (settings (a .acceptors) (a .instances)) (a .own) (now (a .packet)) (lent-tables start) _ (allowed .before .is-allowed .ensures) (allowed .if1 .left) in
+    omega (arith, brought .own-most)
 
 take-promise-requires : tie.Need-take-promise-requires
 take-promise-requires c κs = search needs
 
 carry-out-requires : tie.Need-carry-out-requires
 carry-out-requires c κs =
-    let placed = c .before .before .before .before .before .before .before .before .before .before .before .before .before .before .before in
-    let reading = placed .before .before .before .before .before .before .before .before in
-    (within placed, read-length _ _ (sym (reading .before .before .read-packet .ensures) ∙ reading .reading .given .1))
+    let placed = c .before .before .before .before .before .before .before .before .before .before .before .before .before .before .before .before in
+    let reading = placed .before .before .before .before .before .before .before in
+    read-length _ _ (sym (reading .before .before .read-packet .ensures) ∙ reading .reading .given .1)
 
 same-length-4 : tie.Need-same-length-4
 same-length-4 c = search needs
@@ -122,19 +129,22 @@ same-length-10 c = search needs
 
 returns-5 : tie.Need-returns-5
 returns-5 c =
-    let placed = c .before .before .before .before .before .before .before .before .before .before .before .before .before .before .before .before .before .before .before .before .before .before .before .before .before .before .before .before .before .before in
-    let reading = placed .before .before .before .before .before .before .before .before in
+    let carried = c .before .before .before .before .before .before .before .before .before .before .before .before .before .before in
+    let taken = carried .before .before .before .before .before .before .before .before in
+    let placed = taken .before .before .before .before .before .before .before .before .before in
+    let promised = placed .before .before .before .before in
+    let reading = promised .before .before .before in
     let allowed = reading .before .before .before .before in
-    step-there _ _ _ _ _ _ (allowed .before .before .own-allowed .ensures) (allowed .before .sizes-allowed .ensures) (allowed .if1 .left) _ (reading .before .before .read-packet .ensures) _ (reading .reading .given .1)
-    _ _ _ _ _ (placed .before .before .before .before .before .message .given .1) _ (placed .before .before .before .place-of .ensures) _ _ (c .before .before .before .before .before .before .before .before .before .before .before .before .before .before .before .before .before .before .before .before .before .before .take-promise .result) _ (placed .before .place .given .1) (c .before .before .before .before .before .before .before .before .before .before .before .before .before .before .before .before .before .before .before .before .before .before .before .cell-at .ensures) (c .before .before .before .before .before .before .before .before .before .before .before .before .before .before .before .before .before .before .before .before .before .before .take-promise .ensures)
-    (c .before .before .before .before .before .before .before .before .before .before .before .before .before .before .carry-out .ensures)
+    let start = allowed .before .before .before .before .before .before .before .before .before in
+    step-there _ _ _ (lent-tables start) _ (allowed .before .is-allowed .ensures) (allowed .if1 .left) _ (reading .before .before .read-packet .ensures) _ (reading .reading .given .1)
+    _ _ _ _ _ (promised .message .given .1) _ (placed .before .before .place-of .ensures) _ _ (taken .take-promise .result) _ (placed .place .given .1)
+    (taken .before .cell-at .ensures) (taken .take-promise .ensures) (carried .carry-out .ensures)
 
 pub myrthakel-backup-step-spec : {M : Type 1} → statement M
 myrthakel-backup-step-spec =
     tie.close
     (tie.spec
-    own-allowed-requires
-    sizes-allowed-requires
+    is-allowed-requires
     returns
     read-packet-requires
     enum-known-reading

@@ -1,3 +1,0 @@
-mod Rules
-pub mod Next
-pub mod Laws
