@@ -1,3 +1,4 @@
-pub mod Ways
+mod Ways
+pub mod Laws
 pub mod Promises
 pub mod Answers

@@ -1,21 +1,22 @@
 // A learner: counts votes at the cells of its lent tables, and answers what is decided for an instance.
 ghost use mathlib.Core.Path.{_≡_};
-ghost use Rattle.terms.specs.Rounds.{theInstance};
-ghost use Rattle.terms.specs.Values.{theValue};
-ghost use Rattle.player.specs.Step.{outcome, ruled};
+ghost use Rattle.basics.specs.Rounds.{theInstance};
+ghost use Rattle.basics.specs.Values.{theValue};
+ghost use Rattle.basics.specs.Outcome.{outcome, lent};
+ghost use Rattle.player.specs.Step.{ruled};
 ghost use Rattle.quorum.specs.Settings.{settings};
-ghost use Rattle.tally.specs.Counting.{rulingOf};
-ghost use Rattle.tallies.specs.Tables.{tables, withCell};
-ghost use Rattle.learner.specs.Learner.{learnerStep, told, answer, said, saying};
+ghost use Rattle.learner_rule.specs.Rule.{rulingOf};
+ghost use Rattle.learner_tables.specs.Tables.{tables, withCell};
+ghost use Rattle.learner.specs.Learner.{learnerStep, answerOfCell, answerFor, answered};
+use basics::Instance;
+use basics::Place;
+use basics::Round;
+use basics::Value;
+use basics::Verdict;
+use learner_cell::Cell;
+use learner_rule::Ruled;
 use messages::Message;
 use quorum::Settings;
-use tally::Counted;
-use tally::Tally;
-use terms::Instance;
-use terms::Place;
-use terms::Round;
-use terms::Value;
-use terms::Verdict;
 use wire::Reading;
 
 // What a learner says of an instance.
@@ -29,24 +30,27 @@ pub enum Answer {
 
 // What a vote came to is stored. The packet stays as it is, and so is not lent to be written.
 fn carry_out(
-    answer: Counted,
+    answer: Ruled,
     packet: &[u8],
     rounds: &mut [u32],
     sets: &mut [u8],
     values: &mut [u64],
     index: usize,
 ) -> u32
-    ensures { λ r. ⌜ outcome r (now (packet .entry)) (tables (now (rounds .exit)) (now (sets .exit)) (now (values .exit))) ≡ ruled (now (packet .entry)) (tables (now (rounds .entry)) (now (sets .entry)) (now (values .entry))) (withCell (tables (now (rounds .entry)) (now (sets .entry)) (now (values .entry))) index) (rulingOf answer) ⌝ }
+    ensures { λ r.
+        let before = tables (now (rounds .entry)) (now (sets .entry)) (now (values .entry)) in
+        let after = tables (now (rounds .exit)) (now (sets .exit)) (now (values .exit)) in
+        ⌜ outcome r (lent (now (packet .entry)) after) ≡ ruled (now (packet .entry)) before (withCell before index) (rulingOf answer) ⌝ }
 {
     match answer {
-        Counted::Refused(number) => number,
-        Counted::Held { cell } => {
-            tallies::store_cell(rounds, sets, values, index, cell);
-            terms::verdict_number(Verdict::Hold)
+        Ruled::Refused(number) => number,
+        Ruled::Held { cell } => {
+            learner_tables::store_cell(rounds, sets, values, index, cell);
+            basics::verdict_number(Verdict::Hold)
         }
-        Counted::Reached { cell } => {
-            tallies::store_cell(rounds, sets, values, index, cell);
-            terms::verdict_number(Verdict::Decided)
+        Ruled::Decided { cell } => {
+            learner_tables::store_cell(rounds, sets, values, index, cell);
+            basics::verdict_number(Verdict::Decided)
         }
     }
 }
@@ -61,13 +65,16 @@ pub extern "C" fn myrthakel_learner_step(
     sets: &mut [u8],
     values: &mut [u64],
 ) -> u32
-    ensures { λ r. ⌜ outcome r (now (packet .entry)) (tables (now (rounds .exit)) (now (sets .exit)) (now (values .exit))) ≡ learnerStep (settings acceptors instances) (now (packet .entry)) (tables (now (rounds .entry)) (now (sets .entry)) (now (values .entry))) ⌝ }
+    ensures { λ r.
+        let before = tables (now (rounds .entry)) (now (sets .entry)) (now (values .entry)) in
+        let after = tables (now (rounds .exit)) (now (sets .exit)) (now (values .exit)) in
+        ⌜ outcome r (lent (now (packet .entry)) after) ≡ learnerStep (settings acceptors instances) (now (packet .entry)) before ⌝ }
 {
     let settings = Settings {
         acceptors,
         instances,
     };
-    if !tallies::sizes_allowed(settings, rounds.len(), sets.len(), values.len()) {
+    if !learner_tables::is_allowed(settings, rounds.len(), sets.len(), values.len()) {
         return 7;
     }
     let reading = wire::read_packet(packet);
@@ -83,25 +90,25 @@ pub extern "C" fn myrthakel_learner_step(
     else {
         return 6;
     };
-    let place = terms::place_of(instances, instance);
+    let place = basics::place_of(instances, instance);
     let Place::At(index) = place else {
-        return terms::nowhere(place);
+        return basics::nowhere(place);
     };
-    let cell = tallies::cell_at(rounds, sets, values, index);
-    let answer = tally::count_vote(acceptors, cell, sender, instance, round, value);
+    let cell = learner_tables::cell_at(rounds, sets, values, index);
+    let answer = learner_rule::count_vote(acceptors, cell, sender, instance, round, value);
     carry_out(answer, packet, rounds, sets, values, index)
 }
 
 // ---- the answer for an instance
 
-fn tell(acceptors: u32, cell: Tally) -> Answer
-    ensures { λ r. ⌜ r ≡ told acceptors cell ⌝ }
+fn answer_of_cell(acceptors: u32, cell: Cell) -> Answer
+    ensures { λ r. ⌜ r ≡ answerOfCell acceptors cell ⌝ }
 {
-    if !tally::is_possible(acceptors, cell) {
+    if !learner_cell::is_possible(acceptors, cell) {
         return Answer::Refused(17);
     }
-    let value = cell.value;
-    if tally::is_decided(acceptors, cell) {
+    if learner_cell::is_decided(acceptors, cell) {
+        let value = learner_cell::value_of(acceptors, cell);
         return Answer::Decided { value };
     }
     Answer::NotYet
@@ -114,22 +121,24 @@ pub fn answer_for(
     sets: &[u8],
     values: &[u64],
 ) -> Answer
-    ensures { λ r. ⌜ r ≡ answer settings instance (tables (now (rounds .entry)) (now (sets .entry)) (now (values .entry))) ⌝ }
+    ensures { λ r.
+        let before = tables (now (rounds .entry)) (now (sets .entry)) (now (values .entry)) in
+        ⌜ r ≡ answerFor settings «instance» before ⌝ }
 {
-    if !tallies::sizes_allowed(settings, rounds.len(), sets.len(), values.len()) {
+    if !learner_tables::is_allowed(settings, rounds.len(), sets.len(), values.len()) {
         return Answer::Refused(7);
     }
-    let place = terms::place_of(settings.instances, instance);
+    let place = basics::place_of(settings.instances, instance);
     let Place::At(index) = place else {
-        return Answer::Refused(terms::nowhere(place));
+        return Answer::Refused(basics::nowhere(place));
     };
-    tell(
+    answer_of_cell(
         settings.acceptors,
-        tallies::cell_at(rounds, sets, values, index),
+        learner_tables::cell_at(rounds, sets, values, index),
     )
 }
 
-// The value goes out by the two numbers lent, which stay as they were unless it is told: a decided null is no "not yet".
+// The value goes out by the two numbers lent, which stay as they were unless it is decided: a decided null is no "not yet".
 #[no_mangle]
 pub extern "C" fn myrthakel_learner_answer(
     acceptors: u32,
@@ -141,7 +150,11 @@ pub extern "C" fn myrthakel_learner_answer(
     value_high: &mut u64,
     value_low: &mut u64,
 ) -> u32
-    ensures { λ r. ⌜ said r (theValue (now («value_high» .exit)) (now («value_low» .exit))) ≡ saying (theValue (now («value_high» .entry)) (now («value_low» .entry))) (answer (settings acceptors instances) (theInstance instance) (tables (now (rounds .entry)) (now (sets .entry)) (now (values .entry)))) ⌝ }
+    ensures { λ r.
+        let before = tables (now (rounds .entry)) (now (sets .entry)) (now (values .entry)) in
+        let value = theValue (now («value_high» .entry)) (now («value_low» .entry)) in
+        ⌜ outcome r (theValue (now («value_high» .exit)) (now («value_low» .exit)))
+        ≡ answered value (answerFor (settings acceptors instances) (theInstance «instance») before) ⌝ }
 {
     let settings = Settings {
         acceptors,
@@ -151,9 +164,9 @@ pub extern "C" fn myrthakel_learner_answer(
         Answer::Decided { value } => {
             *value_high = value.high;
             *value_low = value.low;
-            terms::verdict_number(Verdict::Done)
+            basics::verdict_number(Verdict::Done)
         }
-        Answer::NotYet => terms::verdict_number(Verdict::NotYet),
+        Answer::NotYet => basics::verdict_number(Verdict::NotYet),
         Answer::Refused(number) => number,
     }
 }

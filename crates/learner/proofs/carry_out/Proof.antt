@@ -1,6 +1,6 @@
 -- `learner::carry_out` meets its contract: each arm knows what the vote came to, and stores that.
 -- Assumes nothing.
-use Rattle.learner.proofs.Ways.{carried-refused, carried-held, carried-reached}
+use Rattle.learner.proofs.Ways.{carried-refused, carried-held, carried-decided}
 use borrow.Author.Needs.{needs}
 use Rattle.learner.proofs.carry_out.Statement.{statement}
 use Rattle.learner.proofs.carry_out.Tie as tie
@@ -39,7 +39,9 @@ same-length-3 : tie.Need-same-length-3
 same-length-3 c = search needs
 
 returns-2 : tie.Need-returns-2
-returns-2 c = carried-held _ _ _ _ _ _ _ (c .before .before .before .before .before .before .before .before .before .before .before .before .answer2 .given .1) (c .verdict-number .ensures) (c .before .before .before .before .before .before .before .store-cell .ensures)
+returns-2 c =
+    let stored = c .before .before .before .before .before .before .before in
+    carried-held _ _ _ _ _ _ _ (stored .before .before .before .before .before .answer2 .given .1) (c .verdict-number .ensures) (stored .store-cell .ensures)
 
 same-length-4 : tie.Need-same-length-4
 same-length-4 c = search needs
@@ -51,7 +53,9 @@ same-length-6 : tie.Need-same-length-6
 same-length-6 c = search needs
 
 returns-3 : tie.Need-returns-3
-returns-3 c = carried-reached _ _ _ _ _ _ _ (c .before .before .before .before .before .before .before .before .before .before .before .before .answer3 .given .1) (c .verdict-number2 .ensures) (c .before .before .before .before .before .before .before .store-cell2 .ensures)
+returns-3 c =
+    let stored = c .before .before .before .before .before .before .before in
+    carried-decided _ _ _ _ _ _ _ (stored .before .before .before .before .before .answer3 .given .1) (c .verdict-number2 .ensures) (stored .store-cell2 .ensures)
 
 pub carry-out-spec : {M : Type 1} → statement M
 carry-out-spec =

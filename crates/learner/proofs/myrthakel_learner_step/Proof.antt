@@ -5,11 +5,11 @@ use borrow.Author.Needs.{needs}
 use Rattle.learner.proofs.myrthakel_learner_step.Statement.{statement}
 use Rattle.learner.proofs.myrthakel_learner_step.Tie as tie
 
-sizes-allowed-requires : tie.Need-sizes-allowed-requires
-sizes-allowed-requires c κs = search needs
+is-allowed-requires : tie.Need-is-allowed-requires
+is-allowed-requires c κs = search needs
 
 returns : tie.Need-returns
-returns c = step-7 _ _ _ _ (c .before .sizes-allowed .ensures) (c .if1 .taken)
+returns c = step-7 _ _ _ _ (c .before .is-allowed .ensures) (c .if1 .taken)
 
 read-packet-requires : tie.Need-read-packet-requires
 read-packet-requires c κs = search needs
@@ -24,13 +24,19 @@ refusal-requires : tie.Need-refusal-requires
 refusal-requires c κs = search needs
 
 returns-2 : tie.Need-returns-2
-returns-2 c = malformed _ _ _ _ (c .before .before .before .before .before .sizes-allowed .ensures) (c .before .before .before .before .if1 .left) _ (c .before .before .before .read-packet .ensures) _ _ (c .before .enum-told .given .1) (c .refusal .ensures)
+returns-2 c =
+    let read = c .before .before .before in
+    let allowed = read .before in
+    malformed _ _ _ _ (allowed .before .is-allowed .ensures) (allowed .if1 .left) _ (read .read-packet .ensures) _ _ (c .before .enum-told .given .1) (c .refusal .ensures)
 
 enum-known-message : tie.Need-enum-known-message
 enum-known-message c = search needs
 
 returns-3 : tie.Need-returns-3
-returns-3 c = step-6 _ _ _ _ (c .before .before .before .before .before .before .sizes-allowed .ensures) (c .before .before .before .before .before .if1 .left) _ (c .before .before .before .before .read-packet .ensures) _ (c .before .before .reading .given .1) (c .match2 .keys2)
+returns-3 c =
+    let reading = c .before .before in
+    let allowed = reading .before .before .before in
+    step-6 _ _ _ _ (allowed .before .is-allowed .ensures) (allowed .if1 .left) _ (reading .before .before .read-packet .ensures) _ (reading .reading .given .1) (c .match2 .keys2)
 
 place-of-requires : tie.Need-place-of-requires
 place-of-requires c κs = search needs
@@ -46,7 +52,11 @@ nowhere-requires c κs = search needs
 
 returns-4 : tie.Need-returns-4
 returns-4 c =
-    step-nowhere _ _ _ _ (c .before .before .before .before .before .before .before .before .before .before .before .before .sizes-allowed .ensures) (c .before .before .before .before .before .before .before .before .before .before .before .if1 .left) _ (c .before .before .before .before .before .before .before .before .before .before .read-packet .ensures) _ (c .before .before .before .before .before .before .before .before .reading .given .1) _ _ _ _ (c .before .before .before .before .before .message .given .1) _ (c .before .before .before .place-of .ensures) _ _ (c .before .enum-told2 .given .1) (c .nowhere .ensures)
+    let asked = c .before .before .before .before .before in
+    let reading = asked .before .before .before in
+    let allowed = reading .before .before .before in
+    step-nowhere _ _ _ _ (allowed .before .is-allowed .ensures) (allowed .if1 .left) _ (reading .before .before .read-packet .ensures) _ (reading .reading .given .1)
+    _ _ _ _ (asked .message .given .1) _ (c .before .before .before .place-of .ensures) _ _ (c .before .enum-told2 .given .1) (c .nowhere .ensures)
 
 cell-at-requires : tie.Need-cell-at-requires
 cell-at-requires c κs = search needs
@@ -68,13 +78,21 @@ same-length-3 c = search needs
 
 returns-5 : tie.Need-returns-5
 returns-5 c =
-    step-there _ _ _ _ (c .before .before .before .before .before .before .before .before .before .before .before .before .before .before .before .before .before .before .before .before .before .before .before .before .before .before .before .sizes-allowed .ensures) (c .before .before .before .before .before .before .before .before .before .before .before .before .before .before .before .before .before .before .before .before .before .before .before .before .before .before .if1 .left) _ (c .before .before .before .before .before .before .before .before .before .before .before .before .before .before .before .before .before .before .before .before .before .before .before .before .before .read-packet .ensures) _ (c .before .before .before .before .before .before .before .before .before .before .before .before .before .before .before .before .before .before .before .before .before .before .before .reading .given .1) _ _ _ _ (c .before .before .before .before .before .before .before .before .before .before .before .before .before .before .before .before .before .before .before .before .message .given .1) _ (c .before .before .before .before .before .before .before .before .before .before .before .before .before .before .before .before .before .before .place-of .ensures) _ _ (c .before .before .before .before .before .before .before .before .before .before .count-vote .result) _ (c .before .before .before .before .before .before .before .before .before .before .before .before .before .before .before .before .place .given .1) (c .before .before .before .before .before .before .before .before .before .before .before .cell-at .ensures) (c .before .before .before .before .before .before .before .before .before .before .count-vote .ensures) (c .before .before .before .before .before .before .carry-out .ensures)
+    let carried = c .before .before .before .before .before .before in
+    let counted = carried .before .before .before .before in
+    let placed = counted .before .before .before .before .before .before in
+    let asked = placed .before .before .before .before in
+    let reading = asked .before .before .before in
+    let allowed = reading .before .before .before in
+    step-there _ _ _ _ (allowed .before .is-allowed .ensures) (allowed .if1 .left) _ (reading .before .before .read-packet .ensures) _ (reading .reading .given .1)
+    _ _ _ _ (asked .message .given .1) _ (placed .before .before .place-of .ensures) _ _ (counted .count-vote .result) _ (placed .place .given .1)
+    (counted .before .cell-at .ensures) (counted .count-vote .ensures) (carried .carry-out .ensures)
 
 pub myrthakel-learner-step-spec : {M : Type 1} → statement M
 myrthakel-learner-step-spec =
     tie.close
     (tie.spec
-    sizes-allowed-requires
+    is-allowed-requires
     returns
     read-packet-requires
     enum-known-reading

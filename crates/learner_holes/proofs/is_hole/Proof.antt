@@ -1,0 +1,16 @@
+-- `learner_holes::is_hole` meets its contract: the code is the definition.
+-- Assumes nothing.
+use Rattle.learner_holes.specs.Holes.{isHole}
+use borrow.Author.Needs.{needs}
+use Rattle.learner_holes.proofs.is_hole.Statement.{statement}
+use Rattle.learner_holes.proofs.is_hole.Tie as tie
+
+is-decided-requires : tie.Need-is-decided-requires
+is-decided-requires c κs = search needs
+
+returns : tie.Need-returns
+unfolding isHole
+returns c = rw (c .is-decided .ensures)
+
+pub is-hole-spec : {M : Type 1} → statement M
+is-hole-spec = tie.close (tie.spec is-decided-requires returns)

@@ -1,3 +1,0 @@
-mod Columns
-pub mod Cells
-pub mod Laws

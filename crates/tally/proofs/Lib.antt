@@ -1,2 +1,0 @@
-mod Rules
-pub mod Laws
