@@ -1,0 +1,3 @@
+mod Ways
+pub mod Promises
+pub mod RoundTrip

@@ -1,5 +1,0 @@
-mod Lists
-mod Codec
-mod Ways
-pub mod Promises
-pub mod RoundTrip
