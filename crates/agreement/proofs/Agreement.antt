@@ -1,24 +1,25 @@
--- Demand 3, by one proof over M and N: in a run the boxes stand for sound slots, so what is decided there is one value, and a learner's decided cell holds it.
+-- Demand 3, by one proof over M and N: in a run the boxes represent sound slots, so what is decided there is one value, and a learner's decided cell holds it.
 -- Assumes nothing.
 use Prim.Native.Nat.{ℕ, _<_}
 use mathlib.Core.Path.{_≡_, refl, sym, ap, _∙_, subst}
 use mathlib.Core.Bool.{true}
 use mathlib.Core.Logic.{_⊎_, inl, inr}
 use native.Mathlib.Omega.{arith}
-use Rattle.terms.specs.declared.Instance.{Instance}
-use Rattle.terms.specs.declared.Value.{Value}
-use Rattle.terms.specs.Rounds.{theInstance}
-use Rattle.terms.proofs.Ladder.{by-test}
+use Rattle.basics.specs.declared.Instance.{Instance}
+use Rattle.basics.specs.declared.Value.{Value}
+use Rattle.basics.specs.Rounds.{theInstance}
+use Rattle.basics.proofs.Ladder.{by-test}
 use Rattle.quorum.specs.declared.Settings.{Settings}
 use Rattle.quorum.specs.Settings.{allowed}
-use Rattle.tally.specs.declared.Tally.{Tally}
-use Rattle.tally.specs.Tally.{isDecided, possible}
-use Rattle.tallies.specs.Tables.{cellAt}
-use Rattle.agreement.specs.Run.{Boxes, Later, Run, Decided, nothing, not-yet, says, said}
+use Rattle.learner_cell.specs.declared.Cell.{Cell}
+use Rattle.learner_cell.specs.Cell.{isDecided, valueOf, possible}
+use Rattle.learner_tables.specs.Tables.{cellAt}
+use Rattle.agreement.specs.Run.{Boxes, Call, Later, Run, Decided, nothing, not-yet, says, said}
 use Rattle.agreement.specs.Agreement.{Agreed, Agreement, Demand3}
-use Rattle.agreement.proofs.Tidy.{run-tidy}
-use Rattle.agreement.proofs.Runs.{run-holds, joined-runs, stays-frozen}
-use Rattle.agreement.proofs.Saying.{spoken, speaks, waits, sized-allowed}
+use Rattle.agreement.proofs.WellFormed.{run-well-formed}
+use Rattle.agreement.proofs.Runs.{run-represents, joined-runs, stays-frozen}
+use Rattle.learner_tables.proofs.Laws.{sized-allowed}
+use Rattle.agreement.proofs.Saying.{spoken, speaks, waits}
 use Rattle.agreement.proofs.Deciding.{vote-named, named, decided-inside, decided-once, cell-decided, stays-decided}
 use Rattle.agreement.proofs.Delivering.{one-prefix}
 use Rattle.agreement.proofs.Refusals as refusals
@@ -29,13 +30,13 @@ data Saying (s : Settings) (w : Boxes) (which : ℕ) (i : Instance) : Type 0 whe
   speaking : (v : Value) → said s w which i ≡ says v → Saying s w which i
 
 module _ (s : Settings) (ok : allowed s ≡ true) where
-  module _ {w : Boxes} (begun : Run s w) where
+  module _ {w : Boxes} (begun : Run (Call s) s w) where
     saying : (which : ℕ) (i : Instance) → i .0 < s .instances → Saying s w which i
     saying which i below =
         let t = w .learner which in
-        let tidy = run-tidy begun .learners which in
-        let set-up = sized-allowed s t ok (tidy .sized) in
-        let fine = tidy .cells (i .0) below in
+        let formed = run-well-formed begun .learners which in
+        let set-up = sized-allowed s t ok (formed .sized) in
+        let fine = formed .cells (i .0) below in
         by-test (isDecided (s .acceptors) (cellAt t (i .0)))
         (λ decided. speaking _ (speaks s t i _ (record { set-up = set-up; below = below; fine = fine; decided = decided; value = refl })))
         (λ open-still. waiting (waits s t i set-up below fine open-still))
@@ -43,7 +44,7 @@ module _ (s : Settings) (ok : allowed s ≡ true) where
     said-is-decided : (which : ℕ) (i : Instance) (v : Value) → said s w which i ≡ says v → Decided s w i v
     said-is-decided which i v e =
         let h = spoken s (w .learner which) i v e in
-        subst (Decided s w i) (h .value) (cell-decided (run-holds begun) which i (h .below) (h .fine) (h .decided))
+        subst (Decided s w i) (h .value) (cell-decided (run-represents begun) which i (h .below) (h .fine) (h .decided))
 
     never-nothing : (which : ℕ) (i : Instance) → i .0 < s .instances → said s w which i ≡ nothing → ⊥
     never-nothing which i below e = go (saying which i below)
@@ -52,11 +53,15 @@ module _ (s : Settings) (ok : allowed s ≡ true) where
         go (waiting other) = let z : _≡_ {A = ℕ} 0 1 = cc in omega arith
         go (speaking v other) = let z : _≡_ {A = ℕ} 0 1 = cc in omega arith
 
-  module _ {w u : Boxes} (begun : Run s w) (later : Later s w u) where
+  module _ {w u : Boxes} (begun : Run (Call s) s w) (later : Later (Call s) w u) where
     agreed : (i : Instance) (v : Value) → Decided s w i v → Agreed s u i v
-    agreed i v d = record { still = still; alone = λ other e. decided-once (run-holds whole) e still; learners = λ which. go which (saying whole which i (decided-inside (run-holds whole) still)) }
+    agreed i v d = record {
+      still = still;
+      alone = λ other e. decided-once (run-represents whole) e still;
+      learners = λ which. go which (saying whole which i (decided-inside (run-represents whole) still));
+    }
       where
-        whole : Run s u
+        whole : Run (Call s) s u
         whole = joined-runs begun later
 
         still : Decided s u i v
@@ -64,37 +69,38 @@ module _ (s : Settings) (ok : allowed s ≡ true) where
 
         go : (which : ℕ) → Saying s u which i → (said s u which i ≡ not-yet) ⊎ (said s u which i ≡ says v)
         go which (waiting e) = inl e
-        go which (speaking x e) = inr (e ∙ ap says (decided-once (run-holds whole) (said-is-decided whole which i x e) still))
+        go which (speaking x e) = inr (e ∙ ap says (decided-once (run-represents whole) (said-is-decided whole which i x e) still))
 
     keeps-saying : (which : ℕ) (i : Instance) (v : Value) → said s w which i ≡ says v → said s u which i ≡ says v
     keeps-saying which i v e =
         let h = spoken s (w .learner which) i v e in
         let same = sym (stays-frozen {s = s} which (i .0) (h .decided) later) in
         speaks s (u .learner which) i v (record {
-          set-up = sized-allowed s (u .learner which) ok (run-tidy (joined-runs begun later) .learners which .sized);
+          set-up = sized-allowed s (u .learner which) ok (run-well-formed (joined-runs begun later) .learners which .sized);
           below = h .below;
           fine = subst (λ c. possible (s .acceptors) c ≡ true) same (h .fine);
           decided = subst (λ c. isDecided (s .acceptors) c ≡ true) same (h .decided);
-          value = subst (λ (c : Tally). c .value ≡ v) same (h .value);
+          value = subst (λ (c : Cell). valueOf (s .acceptors) c ≡ v) same (h .value);
         })
 
     -- where two learners have decided an instance they hold one value
     same-cells : (first second i : ℕ) → i < s .instances → isDecided (s .acceptors) (cellAt (w .learner first) i) ≡ true
-        → isDecided (s .acceptors) (cellAt (u .learner second) i) ≡ true → cellAt (w .learner first) i .value ≡ cellAt (u .learner second) i .value
+        → isDecided (s .acceptors) (cellAt (u .learner second) i) ≡ true → valueOf (s .acceptors) (cellAt (w .learner first) i)
+        ≡ valueOf (s .acceptors) (cellAt (u .learner second) i)
     same-cells first second i below d e =
         let whole = joined-runs begun later in
-        decided-once (run-holds whole)
-        (stays-decided later (cell-decided (run-holds begun) first (theInstance i) below (run-tidy begun .learners first .cells i below) d))
-        (cell-decided (run-holds whole) second (theInstance i) below (run-tidy whole .learners second .cells i below) e)
+        decided-once (run-represents whole)
+        (stays-decided later (cell-decided (run-represents begun) first (theInstance i) below (run-well-formed begun .learners first .cells i below) d))
+        (cell-decided (run-represents whole) second (theInstance i) below (run-well-formed whole .learners second .cells i below) e)
 
-  agrees : Agreement s
+  agrees : Agreement (Call s) s
   agrees = record {
     decided-once = agreed;
     keeps-saying = keeps-saying;
     said-is-decided = said-is-decided;
-    votes-are-own = λ begun x there switch i r v reads. named (vote-named (run-holds begun) x there switch i r v reads);
+    votes-are-own = λ begun x there switch i r v reads. named (vote-named (run-represents begun) x there switch i r v reads);
     never-nothing = never-nothing;
-    never-by-7-or-17 = λ begun. refusals.never-by-7-or-17 ok (run-tidy begun);
+    never-by-7-or-17 = λ begun. refusals.never-by-7-or-17 ok (run-well-formed begun);
     one-list = λ {w} {u} begun later first second.
         one-prefix (s .acceptors) (w .learner first) (u .learner second) 0 (s .instances) (λ i below. same-cells begun later first second i (omega arith));
   }

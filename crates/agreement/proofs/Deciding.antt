@@ -3,23 +3,24 @@
 use Prim.Native.Nat.{ℕ, _<_}
 use mathlib.Core.Path.{_≡_, sym, subst}
 use mathlib.Core.Bool.{true}
-use Rattle.terms.specs.declared.Instance.{Instance}
-use Rattle.terms.specs.declared.Round.{Round}
-use Rattle.terms.specs.declared.Value.{Value}
+use Rattle.basics.specs.declared.Instance.{Instance}
+use Rattle.basics.specs.declared.Round.{Round}
+use Rattle.basics.specs.declared.Value.{Value}
 use Rattle.messages.specs.declared.Message.the-variants as kind
 use Rattle.wire.specs.declared.Reading.the-variants.{Read}
 use Rattle.wire.specs.Packet.{readPacket}
+use Rattle.basics.proofs.Places.{placed-index, placed-there}
 use Rattle.quorum.specs.declared.Settings.{Settings}
 use Rattle.quorum.specs.Voters.{Mem}
 use Rattle.quorum.proofs.Laws.{quorums-share}
 use Rattle.quorum.proofs.Voters.{listed, set-of, half-iff}
-use Rattle.tally.specs.Tally.{isDecided, possible}
-use Rattle.tally.proofs.Laws.{possible-inside}
-use Rattle.tallies.specs.Tables.{cellAt}
-use Rattle.agreement.specs.Run.{Caller, acceptor, Sent, Boxes, Later, VoteSent, Decided}
+use Rattle.learner_cell.specs.Cell.{isDecided, valueOf, possible}
+use Rattle.learner_cell.proofs.Laws.{possible-inside}
+use Rattle.learner_tables.specs.Tables.{cellAt}
+use Rattle.agreement.specs.Run.{Caller, acceptor, Sent, Boxes, Call, Later, VoteSent, Decided}
 use Rattle.agreement.proofs.Slot.{Slot, vote, LearnerSound}
 use Rattle.agreement.proofs.Slot.Decision.{DecidedIn, one-decision}
-use Rattle.agreement.proofs.Standing.{Knows, a-vote, Holds}
+use Rattle.agreement.proofs.Representing.{Knows, a-vote, Represents}
 use Rattle.agreement.proofs.Runs.{stays-sent}
 
 -- the vote that a packet carries was sent by the acceptor that it names
@@ -29,7 +30,7 @@ named (a-vote there own) = own
 in-slot : {slots : ℕ → Slot} {by : Caller} {a : ℕ} {i : Instance} {r : Round} {v : Value} → Knows slots by (kind.Vote a i r v) → Mem (vote a r v) (slots (i .0) .votes)
 in-slot (a-vote there own) = there
 
-module _ {s : Settings} {w : Boxes} (h : Holds s w) where
+module _ {s : Settings} {w : Boxes} (h : Represents s w) where
   pub vote-named : (x : Sent) → Mem x (w .packets) → (a : ℕ) (i : Instance) (r : Round) (v : Value)
       → readPacket (x .packet) ≡ Read (kind.Vote a i r v) → Knows (h .slots) (x .by) (kind.Vote a i r v)
   vote-named x there a i r v reads =
@@ -54,17 +55,19 @@ module _ {s : Settings} {w : Boxes} (h : Holds s w) where
   decided-inside {i} d =
       let q = decided-in d in
       let a = quorums-share (q .quorum) (q .quorum) in
-      h .inside (i .0) _ (q .voted (a .member) (a .in-first))
+      let spot = h .has-place (i .0) _ (q .voted (a .member) (a .in-first)) in
+      let at = placed-index (s .instances) i (spot .0) (spot .1) in
+      rw (← at .0) (at .1)
 
   pub decided-once : {i : Instance} {v u : Value} → Decided s w i v → Decided s w i u → v ≡ u
   decided-once {i} {v} {u} d e = one-decision (h .sound (i .0)) (d .round) (e .round) v u (decided-in d) (decided-in e)
 
   pub cell-decided : (which : ℕ) (i : Instance) → i .0 < s .instances → possible (s .acceptors) (cellAt (w .learner which) (i .0)) ≡ true
-      → isDecided (s .acceptors) (cellAt (w .learner which) (i .0)) ≡ true → Decided s w i (cellAt (w .learner which) (i .0) .value)
-  unfolding isDecided
+      → isDecided (s .acceptors) (cellAt (w .learner which) (i .0)) ≡ true → Decided s w i (valueOf (s .acceptors) (cellAt (w .learner which) (i .0)))
+  unfolding isDecided valueOf
   cell-decided which i below fine decided =
       let c = cellAt (w .learner which) (i .0) in
-      let votes = subst (LearnerSound (h .slots (i .0) .votes)) (sym (h .learners which (i .0) below)) (h .sound (i .0) .learners which) in
+      let votes = subst (LearnerSound (h .slots (i .0) .votes)) (sym (h .learners which (i .0) (i .0) (placed-there (s .instances) i below))) (h .sound (i .0) .learners which) in
       let inside = possible-inside (s .acceptors) c fine in
       let q = listed (s .acceptors) (c .set) inside in
       record {
@@ -77,7 +80,7 @@ module _ {s : Settings} {w : Boxes} (h : Holds s w) where
       }
 
 -- What is decided stays so.
-pub stays-decided : {s : Settings} {w u : Boxes} {i : Instance} {v : Value} → Later s w u → Decided s w i v → Decided s u i v
+pub stays-decided : {s : Settings} {w u : Boxes} {i : Instance} {v : Value} → Later (Call s) w u → Decided s w i v → Decided s u i v
 stays-decided later d = record {
   round = d .round;
   voters = d .voters;

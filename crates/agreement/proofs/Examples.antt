@@ -10,16 +10,16 @@ use lib.Count.{ones}
 use lib.Dec.{eqb, lit<}
 use borrow.Author.Tests.{eqb-true, eqb-false, ltb-true}
 use Rattle.numbers.specs.BigEndian.{numberAt}
-use Rattle.terms.specs.declared.Round.{Round}
-use Rattle.terms.specs.declared.Value.{Value}
-use Rattle.terms.specs.Ladder.{if_then_else_, need_or_then_}
-use Rattle.terms.specs.Rounds.{theRound, ownerOf, ownedOr0, ownedNot0, rank, atMost}
-use Rattle.terms.specs.Votes.{isVoteBy}
-use Rattle.terms.specs.Places.{placed}
-use Rattle.terms.specs.Values.{null}
-use Rattle.terms.specs.Verdict.{saysSend}
-use Rattle.terms.proofs.Columns.{below-fresh}
-use Rattle.terms.proofs.Ladder.{both-true, or-cases}
+use Rattle.basics.specs.declared.Round.{Round}
+use Rattle.basics.specs.declared.Value.{Value}
+use Rattle.basics.specs.Ladder.{if_then_else_, need_or_then_}
+use Rattle.basics.specs.Rounds.{theRound, ownerOf, ownedOr0, ownedNot0, rank, atMost}
+use Rattle.basics.specs.Votes.{isVoteUpTo}
+use Rattle.basics.specs.Places.{placed}
+use Rattle.basics.specs.Values.{null}
+use Rattle.basics.specs.Verdict.{saysSend}
+use Rattle.columns.proofs.Columns.{below-fresh}
+use Rattle.basics.proofs.Ladder.{both-true, or-cases}
 use Rattle.messages.specs.declared.Message.{Message}
 use Rattle.messages.specs.declared.Message.the-variants.{Vote}
 use Rattle.messages.specs.Table.{requestRow, prepareRow, promiseRow, proposeRow, voteRow, tableRow, keepsTable}
@@ -29,29 +29,34 @@ use Rattle.wire.specs.declared.Reading.{Reading}
 use Rattle.wire.specs.declared.Reading.the-variants.{Read, Refused}
 use Rattle.wire.specs.Packet.{packetLength, fieldsIn, readPacket, packetWith, packetOf}
 use Rattle.wire.proofs.Laws.{packet-bytes}
-use Rattle.player.specs.Step.{afterReading, afterPlacing, ruled, act, step}
+use Rattle.player.specs.Step.{afterReading, afterPlacing, ruled, ruleAt, act, step}
 use Rattle.quorum.specs.declared.Settings.{Settings}
 use Rattle.quorum.specs.Settings.{acceptorsAllowed, instancesAllowed, allowed}
 use Rattle.quorum.specs.Quorum.{majority, bit, hasMember, withMember, within, reaches}
 use Rattle.quorum.specs.Voters.{Mem, newest, older}
-use Rattle.sequence.specs.Sequence as sequences
-use Rattle.primary.specs.Primary as primaries
-use Rattle.ballot.specs.Ballot as ballots
-use Rattle.acceptor.specs.Acceptor as acceptors
-use Rattle.bid.specs.Bid as bids
-use Rattle.takeover.specs.Takeover as takeovers
-use Rattle.backup.specs.Backup as backups
-use Rattle.tally.specs.Tally as tallies
-use Rattle.tally.specs.Counting.{whenDecided, added, vote}
-use Rattle.tallies.specs.Tables as learners
+use Rattle.columns.specs.Walks.{cellsFrom, every}
+use Rattle.primary_rule.specs.Rule as primaryRule
+use Rattle.primary.specs.Primary as primary
+use Rattle.acceptor_rule.specs.Rule as acceptorRule
+use Rattle.acceptor_tables.specs.Tables as acceptorTables
+use Rattle.acceptor.specs.Acceptor as acceptor
+use Rattle.backup_cell.specs.Cell as backupCell
+use Rattle.backup_rule.specs.Rule as backupRule
+use Rattle.backup_tables.specs.Tables as backupTables
+use Rattle.backup.specs.Backup as backup
+use Rattle.learner_cell.specs.Cell as learnerCell
+use Rattle.learner_rule.specs.Rule as learnerRule
+use Rattle.learner_tables.specs.Tables as learnerTables
 use Rattle.learner.specs.Learner as learner
-use Rattle.delivery.specs.Delivery.{delivered}
-use Rattle.holes.specs.Holes as holes
+use Rattle.learner_delivery.specs.Delivery.{delivered}
+use Rattle.learner_holes.specs.Holes as holes
 use Rattle.agreement.specs.Run.{Caller, Sent, sent, Boxes, freshBoxes, put, Handed, Call, Later, now, and-then, Run, VoteSent, Decided}
 use Rattle.agreement.specs.Run as run
 use Rattle.agreement.specs.Agreement.{Agreed}
-use Rattle.agreement.specs.Examples.{Row, primary-gets, acceptor-gets, backup-starts, backup-gets, learner-gets, zeros, after, answers, sameBytes, wasSent, readsRequest, mayHand, isHanded, played, plays, three, first, v, u, deciding, takingOver, early, taken, leavingAHole, repairing, holed, repaired, splitting, split, Computed}
-use Rattle.agreement.proofs.Basics.{nowhere, extend}
+use Rattle.agreement.specs.Examples.{Row, primary-gets, acceptor-gets, backup-starts, backup-gets, learner-gets, zeros, after, answers, sameBytes, wasSent}
+use Rattle.agreement.specs.Examples.{readsRequest, mayHand, isHanded, played, plays, three, first, v, u, deciding, takingOver, early, taken, leavingAHole}
+use Rattle.agreement.specs.Examples.{repairing, holed, repaired, splitting, split, Computed}
+use Rattle.agreement.proofs.Families.{nowhere, extend}
 use Rattle.agreement.proofs.Agreement.{agreement}
 
 -- ---- rows that may be played are a run
@@ -110,7 +115,7 @@ row-calls s w (backup-starts own i floor v answer) e =
 row-calls s w (backup-gets own m answer) e = run.Call.backup-steps own (packetOf m) (may-hand w m e)
 row-calls s w (learner-gets which m answer) e = run.Call.learner-steps which (packetOf m) (may-hand w m e)
 
-rows-run : {s : Settings} {w : Boxes} (x : Boxes) (rows : List Row) → Later s w x → plays s x rows ≡ true → Later s w (played s x rows)
+rows-run : {s : Settings} {w : Boxes} (x : Boxes) (rows : List Row) → Later (Call s) w x → plays s x rows ≡ true → Later (Call s) w (played s x rows)
 unfolding plays played
 rows-run x [] before e = before
 rows-run {s} x (row ∷ rows) before e =
@@ -138,15 +143,16 @@ two-votes w a b differ known-a known-b r x voted-a voted-b = record {
 -- ---- the examples, computed
 
 pub computed : Computed
-unfolding ones numberAt if_then_else_ need_or_then_ ownerOf ownedOr0 ownedNot0 rank atMost requestRow prepareRow promiseRow proposeRow voteRow tableRow keepsTable isVoteBy
-    messageOf fieldsOf whenRequest whenPrepare whenPromise whenPropose whenVote fieldsIn readPacket packetWith packetOf placed afterReading afterPlacing ruled act step saysSend
+unfolding ones numberAt if_then_else_ need_or_then_ ownerOf ownedOr0 ownedNot0 rank atMost requestRow prepareRow promiseRow proposeRow voteRow tableRow keepsTable isVoteUpTo
+    messageOf fieldsOf whenRequest whenPrepare whenPromise whenPropose whenVote fieldsIn readPacket packetWith packetOf placed afterReading afterPlacing ruled ruleAt act step saysSend
     acceptorsAllowed instancesAllowed allowed majority bit hasMember withMember within reaches put sameBytes wasSent plays played
-    sequences.possible sequences.rule sequences.primaryStep primaries.lentStep
-    ballots.possible ballots.obeying ballots.rule ballots.place acceptors.acceptorAllowed acceptors.acceptor acceptors.acceptorStep
-    bids.isFresh bids.phaseFits bids.isStarted bids.possible takeovers.nextRound takeovers.start takeovers.counting takeovers.chosen takeovers.whenMajority takeovers.promise
-    takeovers.rule bids.ownAllowed backups.sizesAllowed backups.backupAllowed backups.backup backups.backupStep backups.backupStart
-    tallies.isDecided tallies.isFresh tallies.isHeard tallies.possible whenDecided added vote learners.sizesAllowed learner.rule learner.learner learner.learnerStep
-    learner.told learner.answerAt learner.answer learners.cellsFrom learners.allPossible delivered holes.decidedEndFrom holes.isHole holes.firstHoleFrom holes.hole
+    primaryRule.possible primaryRule.takeRequest primary.isAllowed primary.primary primary.primaryStep
+    acceptorRule.possible acceptorRule.orderOf acceptorRule.obeying acceptorRule.obey acceptorTables.isAllowed acceptor.acceptor acceptor.acceptorStep
+    backupCell.isFresh backupCell.phaseFits backupCell.isStarted backupCell.possible backupRule.nextRound backupRule.start backupRule.counting backupRule.chosen
+    backupRule.whenMajority backupRule.takePromise backupTables.isAllowed backup.backup backup.backupStep backup.backupStart
+    learnerCell.isDecided learnerCell.valueOf learnerCell.isFresh learnerCell.isHeard learnerCell.possible learnerRule.holdOrDecide learnerRule.addVoter learnerRule.countVote
+    learnerTables.isAllowed learner.place learner.rule learner.learner learner.learnerStep learner.answerOfCell learner.answerAt learner.answerFor
+    cellsFrom every delivered holes.decidedEndFrom holes.isHole holes.firstHoleFrom holes.findHole
 computed = record {
   deciding-plays = refl;
   first-vote = record { packet = packetOf (Vote 0 first (theRound 0) v); switch = 0; reads = refl; was-sent = older (newest refl) };
@@ -173,16 +179,16 @@ computed = record {
 
 -- ---- and what the theorem says of them
 
-early-run : Run three early
+early-run : Run (Call three) three early
 early-run = rows-run (freshBoxes 2) deciding now (computed .deciding-plays)
 
-later-taken : Later three early taken
+later-taken : Later (Call three) early taken
 later-taken = rows-run early takingOver now (computed .taking-over-plays)
 
-pub taken-run : Run three taken
+pub taken-run : Run (Call three) three taken
 taken-run = rows-run early takingOver early-run (computed .taking-over-plays)
 
-pub repaired-run : Run three repaired
+pub repaired-run : Run (Call three) three repaired
 repaired-run = rows-run holed repairing (rows-run (freshBoxes 2) leavingAHole now (computed .leaving-a-hole-plays)) (computed .repairing-plays)
 
 three-allowed : allowed three ≡ true
@@ -201,7 +207,7 @@ pub null-decided : Decided three repaired first null
 null-decided = agreement three three-allowed .said-is-decided repaired-run 0 first null (computed .null-said)
 
 -- The other value is decided where one acceptor voted for v, and so v is not.
-pub split-run : Run three split
+pub split-run : Run (Call three) three split
 split-run = rows-run (freshBoxes 2) splitting now (computed .splitting-plays)
 
 pub other-decided : Decided three split first u

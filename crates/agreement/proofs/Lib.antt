@@ -1,7 +1,7 @@
-pub mod Basics
+pub mod Families
 pub mod Slot
-pub mod Tidy
-pub mod Standing
+pub mod WellFormed
+pub mod Representing
 pub mod Calls
 pub mod Runs
 pub mod Saying
@@ -9,5 +9,6 @@ pub mod Deciding
 pub mod Delivering
 pub mod Refusals
 pub mod Agreement
+pub mod OtherRuns
 pub mod Examples
 pub mod Slips

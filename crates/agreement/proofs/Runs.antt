@@ -1,38 +1,39 @@
--- In a run the boxes stand for sound slots, what was sent stays sent, and a decided cell of a learner stays as it is.
+-- In a run the boxes represent sound slots, what was sent stays sent, and a decided cell of a learner stays as it is.
 -- Assumes nothing.
 use Prim.Native.Nat.{ℕ}
 use mathlib.Core.Path.{_≡_, refl, ap, _∙_}
 use mathlib.Core.Bool.{true, true≢false}
 use mathlib.Core.List.{List}
 use native.Mathlib.Omega.{arith}
-use Rattle.terms.specs.Rounds.{none}
-use Rattle.terms.specs.Verdict.{saysSend}
-use Rattle.terms.proofs.Ladder.{if-elim}
-use Rattle.terms.proofs.Rounds.{rank-none}
-use Rattle.player.specs.Step.{Outcome}
+use Rattle.basics.specs.Rounds.{theInstance, none}
+use Rattle.basics.proofs.Places.{placed-index}
+use Rattle.basics.specs.Verdict.{saysSend}
+use Rattle.basics.proofs.Ladder.{if-elim}
+use Rattle.basics.proofs.Rounds.{rank-none}
+use Rattle.basics.specs.Outcome.{Outcome, Lent}
 use Rattle.quorum.specs.declared.Settings.{Settings}
 use Rattle.quorum.specs.Voters.{Mem, older}
 use Rattle.quorum.proofs.Laws.{empty-bit}
-use Rattle.primary.specs.Primary.{lentStep}
+use Rattle.primary.specs.Primary.{primaryStep}
 use Rattle.acceptor.specs.Acceptor.{acceptorStep}
-use Rattle.acceptor.proofs.Promises as acceptor
+use Rattle.acceptor_tables.proofs.Laws as acceptor-tables
 use Rattle.backup.specs.Backup.{backupStep, backupStart}
-use Rattle.backup.proofs.Promises as backup
-use Rattle.tally.specs.Tally.{isDecided}
-use Rattle.tallies.specs.Tables.{cellAt}
-use Rattle.tallies.proofs.Laws as learner-tables
+use Rattle.backup_tables.proofs.Laws as backup-tables
+use Rattle.learner_cell.specs.Cell.{isDecided}
+use Rattle.learner_tables.specs.Tables.{cellAt}
+use Rattle.learner_tables.proofs.Laws as learner-tables
 use Rattle.learner.specs.Learner.{learnerStep}
 use Rattle.learner.proofs.Promises as learner
 use Rattle.agreement.specs.Run.{Caller, the-primary, Sent, Boxes, freshBoxes, sending, Call, Later, now, and-then, Run}
 use Rattle.agreement.specs.Run as run
-use Rattle.agreement.proofs.Basics.{nowhere, put-elim}
+use Rattle.agreement.proofs.Families.{nowhere, put-elim}
 use Rattle.agreement.proofs.Slot.{freshSlot, Sound}
-use Rattle.agreement.proofs.Standing.{Holds}
-use Rattle.agreement.proofs.Tidy.{Tidy, run-tidy}
-use Rattle.agreement.proofs.Calls.Primary.{primary-holds}
-use Rattle.agreement.proofs.Calls.Acceptor.{acceptor-holds}
-use Rattle.agreement.proofs.Calls.Backup.{backup-holds, start-holds}
-use Rattle.agreement.proofs.Calls.Learner.{learner-holds}
+use Rattle.agreement.proofs.Representing.{Represents}
+use Rattle.agreement.proofs.WellFormed.{WellFormed, run-well-formed}
+use Rattle.agreement.proofs.Calls.Primary.{primary-represents}
+use Rattle.agreement.proofs.Calls.Acceptor.{acceptor-represents}
+use Rattle.agreement.proofs.Calls.Backup.{backup-represents, start-represents}
+use Rattle.agreement.proofs.Calls.Learner.{learner-represents}
 
 -- ---- sound slots
 
@@ -52,41 +53,41 @@ fresh-sound M = record {
   learners = λ l a m. absurd (omega (arith, empty-bit a, m));
 }
 
-fresh-holds : (s : Settings) → Holds s (freshBoxes (s .instances))
-fresh-holds s = record {
+fresh-represents : (s : Settings) → Represents s (freshBoxes (s .instances))
+fresh-represents s = record {
   slots = λ _. freshSlot;
-  acceptors = λ a. acceptor.fresh-cells (s .instances);
-  backups = λ b. backup.fresh-cells (s .instances);
-  learners = λ l. learner-tables.fresh-cells (s .instances);
+  acceptors = λ a i index at. acceptor-tables.fresh-cells (s .instances) index (placed-index (s .instances) (theInstance i) index at .1);
+  backups = λ b i index at. backup-tables.fresh-cells (s .instances) index (placed-index (s .instances) (theInstance i) index at .1);
+  learners = λ l i index at. learner-tables.fresh-cells (s .instances) index (placed-index (s .instances) (theInstance i) index at .1);
   told = record { known = λ x. nowhere; votes = λ i x. nowhere };
   sound = λ i. fresh-sound (s .acceptors);
-  inside = λ i x. nowhere;
+  has-place = λ i x. nowhere;
   unopened = λ i _ x. nowhere;
 }
 
-call-holds : {s : Settings} {w u : Boxes} → Tidy s w → Holds s w → Call s w u → Holds s u
-call-holds tidy h (run.Call.primary-steps p handed) = primary-holds tidy h p handed
-call-holds tidy h (run.Call.acceptor-steps own p handed) = acceptor-holds tidy h own p handed
-call-holds tidy h (run.Call.backup-steps own p handed) = backup-holds tidy h own p handed
-call-holds tidy h (run.Call.backup-starts own i floor v buffer given) = start-holds tidy h own i floor v buffer given
-call-holds tidy h (run.Call.learner-steps which p handed) = learner-holds h which p handed
-call-holds tidy h run.Call.only-reads = h
+call-represents : {s : Settings} {w u : Boxes} → WellFormed s w → Represents s w → Call s w u → Represents s u
+call-represents formed h (run.Call.primary-steps p handed) = primary-represents formed h p handed
+call-represents formed h (run.Call.acceptor-steps own p handed) = acceptor-represents formed h own p handed
+call-represents formed h (run.Call.backup-steps own p handed) = backup-represents formed h own p handed
+call-represents formed h (run.Call.backup-starts own i floor v buffer given) = start-represents formed h own i floor v buffer given
+call-represents formed h (run.Call.learner-steps which p handed) = learner-represents h which p handed
+call-represents formed h run.Call.only-reads = h
 
-pub run-holds : {s : Settings} {w : Boxes} → Run s w → Holds s w
-run-holds {s} now = fresh-holds s
-run-holds (and-then before call) = call-holds (run-tidy before) (run-holds before) call
+pub run-represents : {s : Settings} {w : Boxes} → Run (Call s) s w → Represents s w
+run-represents {s} now = fresh-represents s
+run-represents (and-then before call) = call-represents (run-well-formed before) (run-represents before) call
 
-pub joined-runs : {s : Settings} {w u x : Boxes} → Later s w u → Later s u x → Later s w x
+pub joined-runs : {Calls : Boxes → Boxes → Type 0} {w u x : Boxes} → Later Calls w u → Later Calls u x → Later Calls w x
 joined-runs before now = before
 joined-runs before (and-then more call) = and-then (joined-runs before more) call
 
 -- ---- what was sent
 
-still-sending : {Tables : Type 0} (by : Caller) (o : Outcome Tables) (packets : List Sent) (x : Sent) → Mem x packets → Mem x (sending by o packets)
-still-sending by o packets x there = if-elim (Mem x) (saysSend (o .verdict)) _ _ (λ _. older there) (λ _. there)
+still-sending : {Tables : Type 0} (by : Caller) (o : Outcome (Lent Tables)) (packets : List Sent) (x : Sent) → Mem x packets → Mem x (sending by o packets)
+still-sending by o packets x there = if-elim (Mem x) (saysSend (o .answer)) _ _ (λ _. older there) (λ _. there)
 
 still-sent : {s : Settings} {w u : Boxes} (x : Sent) → Call s w u → Mem x (w .packets) → Mem x (u .packets)
-still-sent {s} {w} x (run.Call.primary-steps p _) there = still-sending the-primary (lentStep s p (w .primary)) (w .packets) x there
+still-sent {s} {w} x (run.Call.primary-steps p _) there = still-sending the-primary (primaryStep s p (w .primary)) (w .packets) x there
 still-sent {s} {w} x (run.Call.acceptor-steps own p _) there = still-sending (run.Caller.acceptor own) (acceptorStep s own p (w .acceptor own)) (w .packets) x there
 still-sent {s} {w} x (run.Call.backup-steps own p _) there = still-sending (run.Caller.backup own) (backupStep s own p (w .backup own)) (w .packets) x there
 still-sent {s} {w} x (run.Call.backup-starts own i floor v buffer _) there =
@@ -94,7 +95,7 @@ still-sent {s} {w} x (run.Call.backup-starts own i floor v buffer _) there =
 still-sent {s} {w} x (run.Call.learner-steps which p _) there = still-sending (run.Caller.learner which) (learnerStep s p (w .learner which)) (w .packets) x there
 still-sent x run.Call.only-reads there = there
 
-pub stays-sent : {s : Settings} {w u : Boxes} (x : Sent) → Later s w u → Mem x (w .packets) → Mem x (u .packets)
+pub stays-sent : {s : Settings} {w u : Boxes} (x : Sent) → Later (Call s) w u → Mem x (w .packets) → Mem x (u .packets)
 stays-sent x now there = there
 stays-sent x (and-then before call) there = still-sent x call (stays-sent x before there)
 
@@ -111,7 +112,7 @@ module _ {s : Settings} (which i : ℕ) where
       (λ _ _ _. refl) which decided
   frozen decided run.Call.only-reads = refl
 
-  pub stays-frozen : {w u : Boxes} → isDecided (s .acceptors) (cellAt (w .learner which) i) ≡ true → Later s w u → cellAt (u .learner which) i ≡ cellAt (w .learner which) i
+  pub stays-frozen : {w u : Boxes} → isDecided (s .acceptors) (cellAt (w .learner which) i) ≡ true → Later (Call s) w u → cellAt (u .learner which) i ≡ cellAt (w .learner which) i
   stays-frozen decided now = refl
   stays-frozen decided (and-then before call) =
       let same = stays-frozen decided before in

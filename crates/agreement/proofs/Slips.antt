@@ -1,34 +1,35 @@
 -- Each slip leads to two values for one instance: computed from the definitions, through the packets' bytes.
 -- Assumes nothing.
-use Prim.Native.Nat.{_<_}
 use mathlib.Core.Path.{refl}
 use lib.Count.{ones}
 use lib.Dec.{lit<}
 use Rattle.numbers.specs.BigEndian.{numberAt}
-use Rattle.terms.specs.Ladder.{if_then_else_, need_or_then_}
-use Rattle.terms.specs.Rounds.{theRound, ownerOf, ownedOr0, ownedNot0, rank, atMost}
-use Rattle.terms.specs.Votes.{isVoteBy}
-use Rattle.terms.specs.Places.{placed}
-use Rattle.terms.specs.Values.{null}
-use Rattle.terms.specs.Verdict.{saysSend}
+use Rattle.basics.specs.Ladder.{if_then_else_, need_or_then_}
+use Rattle.basics.specs.Rounds.{theRound, ownerOf, ownedOr0, ownedNot0, rank, atMost}
+use Rattle.basics.specs.Votes.{isVoteUpTo}
+use Rattle.basics.specs.Places.{placed}
+use Rattle.basics.specs.Values.{null}
+use Rattle.basics.specs.Verdict.{saysSend}
 use Rattle.messages.specs.declared.Message.the-variants.{Vote}
 use Rattle.messages.specs.Table.{requestRow, prepareRow, promiseRow, proposeRow, voteRow, tableRow, keepsTable}
 use Rattle.messages.specs.Message.{messageOf, fieldsOf, whenRequest, whenPrepare, whenPromise, whenPropose, whenVote}
 use Rattle.wire.specs.Packet.{fieldsIn, readPacket, packetWith, packetOf}
-use Rattle.player.specs.Step.{afterReading, afterPlacing, ruled, act, step}
+use Rattle.player.specs.Step.{afterReading, afterPlacing, ruled, ruleAt, act, step}
 use Rattle.quorum.specs.Settings.{acceptorsAllowed, instancesAllowed, allowed}
 use Rattle.quorum.specs.Quorum.{majority, bit, hasMember, withMember, within, reaches}
 use Rattle.quorum.specs.Voters.{newest, older}
-use Rattle.sequence.specs.Sequence as sequences
-use Rattle.primary.specs.Primary as primaries
-use Rattle.ballot.specs.Ballot as ballots
-use Rattle.acceptor.specs.Acceptor as acceptors
-use Rattle.bid.specs.Bid as bids
-use Rattle.takeover.specs.Takeover as takeovers
-use Rattle.backup.specs.Backup as backups
-use Rattle.tally.specs.Tally as tallies
-use Rattle.tally.specs.Counting.{whenDecided, added, vote}
-use Rattle.tallies.specs.Tables as learners
+use Rattle.primary_rule.specs.Rule as primaryRule
+use Rattle.primary.specs.Primary as primary
+use Rattle.acceptor_rule.specs.Rule as acceptorRule
+use Rattle.acceptor_tables.specs.Tables as acceptorTables
+use Rattle.acceptor.specs.Acceptor as acceptor
+use Rattle.backup_cell.specs.Cell as backupCell
+use Rattle.backup_rule.specs.Rule as backupRule
+use Rattle.backup_tables.specs.Tables as backupTables
+use Rattle.backup.specs.Backup as backup
+use Rattle.learner_cell.specs.Cell as learnerCell
+use Rattle.learner_rule.specs.Rule as learnerRule
+use Rattle.learner_tables.specs.Tables as learnerTables
 use Rattle.learner.specs.Learner as learner
 use Rattle.agreement.specs.Run.{put}
 use Rattle.agreement.specs.Examples.{sameBytes, wasSent, played, plays, three, first, v, u}
@@ -36,14 +37,15 @@ use Rattle.agreement.specs.Slips.{forgotten, votingForBoth, notRisen, vo
 use Rattle.agreement.proofs.Examples.{two-votes}
 
 pub slips : Slips
-unfolding ones numberAt if_then_else_ need_or_then_ ownerOf ownedOr0 ownedNot0 rank atMost requestRow prepareRow promiseRow proposeRow voteRow tableRow keepsTable isVoteBy
-    messageOf fieldsOf whenRequest whenPrepare whenPromise whenPropose whenVote fieldsIn readPacket packetWith packetOf placed afterReading afterPlacing ruled act step saysSend
+unfolding ones numberAt if_then_else_ need_or_then_ ownerOf ownedOr0 ownedNot0 rank atMost requestRow prepareRow promiseRow proposeRow voteRow tableRow keepsTable isVoteUpTo
+    messageOf fieldsOf whenRequest whenPrepare whenPromise whenPropose whenVote fieldsIn readPacket packetWith packetOf placed afterReading afterPlacing ruled ruleAt act step saysSend
     acceptorsAllowed instancesAllowed allowed majority bit hasMember withMember within reaches put sameBytes wasSent plays played
-    sequences.possible sequences.rule sequences.primaryStep primaries.lentStep
-    ballots.possible ballots.obeying ballots.rule ballots.place acceptors.acceptorAllowed acceptors.acceptor acceptors.acceptorStep
-    bids.isFresh bids.phaseFits bids.isStarted bids.possible takeovers.nextRound takeovers.start takeovers.counting takeovers.chosen takeovers.whenMajority takeovers.promise
-    takeovers.rule bids.ownAllowed backups.sizesAllowed backups.backupAllowed backups.backup backups.backupStep backups.backupStart
-    tallies.isDecided tallies.isFresh tallies.isHeard tallies.possible whenDecided added vote learners.sizesAllowed learner.rule learner.learner learner.learnerStep learner.told learner.answerAt learner.answer
+    primaryRule.possible primaryRule.takeRequest primary.isAllowed primary.primary primary.primaryStep
+    acceptorRule.possible acceptorRule.orderOf acceptorRule.obeying acceptorRule.obey acceptorTables.isAllowed acceptor.acceptor acceptor.acceptorStep
+    backupCell.isFresh backupCell.phaseFits backupCell.isStarted backupCell.possible backupRule.nextRound backupRule.start backupRule.counting backupRule.chosen
+    backupRule.whenMajority backupRule.takePromise backupTables.isAllowed backup.backup backup.backupStep backup.backupStart
+    learnerCell.isDecided learnerCell.valueOf learnerCell.isFresh learnerCell.isHeard learnerCell.possible learnerRule.holdOrDecide learnerRule.addVoter learnerRule.countVote
+    learnerTables.isAllowed learner.place learner.rule learner.learner learner.learnerStep learner.answerOfCell learner.answerAt learner.answerFor
 slips = record {
   promise-forgotten = record {
     rows-play = refl;

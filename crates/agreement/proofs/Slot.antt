@@ -11,18 +11,18 @@ use mathlib.Core.Path.{_≡_}
 use mathlib.Core.Bool.{false}
 use mathlib.Core.List.{List, []}
 use lib.Dec.{eqb}
-use Rattle.terms.specs.declared.Round.{Round}
-use Rattle.terms.specs.declared.Value.{Value}
-use Rattle.terms.specs.Ladder.{if_then_else_}
-use Rattle.terms.specs.Rounds.{isNone, ownerOf, rank}
+use Rattle.basics.specs.declared.Round.{Round}
+use Rattle.basics.specs.declared.Value.{Value}
+use Rattle.basics.specs.Ladder.{if_then_else_}
+use Rattle.basics.specs.Rounds.{isNone, ownerOf, rank}
 use Rattle.quorum.specs.Quorum.{Member, Quorum}
 use Rattle.quorum.specs.Voters.{Mem}
-use Rattle.ballot.specs.declared.Cell as acceptors
-use Rattle.ballot.specs.Ballot as acceptor
-use Rattle.bid.specs.declared.Cell as backups
-use Rattle.bid.specs.Bid as bids
-use Rattle.tally.specs.declared.Tally.{Tally}
-use Rattle.tally.specs.Tally.{freshTally}
+use Rattle.acceptor_rule.specs.declared.Cell as acceptors
+use Rattle.acceptor_rule.specs.Rule as acceptorRule
+use Rattle.backup_cell.specs.declared.Cell as backups
+use Rattle.backup_cell.specs.Cell as backupCell
+use Rattle.learner_cell.specs.declared.Cell as learners
+use Rattle.learner_cell.specs.Cell as learnerCell
 
 -- A promise that was sent: the acceptor, the round, and its vote round and value at that moment.
 pub record Promise : Type 0 where
@@ -52,17 +52,17 @@ vote sender round value = record { sender = sender; round = round; value = value
 pub record Slot : Type 0 where
   pub acceptor : ℕ → acceptors.Cell
   pub backup : ℕ → backups.Cell
-  pub learner : ℕ → Tally
+  pub learner : ℕ → learners.Cell
   pub promises : List Promise
   pub proposes : List Propose
   pub votes : List Vote
 
 abbrev pub freshSlot : Slot
-freshSlot = record { acceptor = λ _. acceptor.freshCell; backup = λ _. bids.freshCell; learner = λ _. freshTally; promises = []; proposes = []; votes = [] }
+freshSlot = record { acceptor = λ _. acceptorRule.freshCell; backup = λ _. backupCell.freshCell; learner = λ _. learnerCell.freshCell; promises = []; proposes = []; votes = [] }
 
 -- In rounds below this one the backup proposes nothing any more.
 abbrev pub spent : backups.Cell → ℕ
-spent c = c .round .0 + (if eqb (c .phase) bids.proposed then 1 else 0)
+spent c = c .round .0 + (if eqb (c .phase) backupCell.proposed then 1 else 0)
 
 -- A whole majority is past round r, and whoever of it voted in round r voted for v: nothing else was or will be decided there.
 pub record Barred (M : ℕ) (acceptor : ℕ → acceptors.Cell) (votes : List Vote) (r : ℕ) (v : Value) : Type 0 where
@@ -89,7 +89,7 @@ pub record BackupSound (promises : List Promise) (proposes : List Propose) (c : 
   pub proposed : isNone (c .«best_vote_round») ≡ false → Mem (propose (c .«best_vote_round») (c .«best_value»)) proposes
 
 -- Each acceptor in a learner's set sent that vote.
-abbrev pub LearnerSound : (votes : List Vote) → Tally → Type 0
+abbrev pub LearnerSound : (votes : List Vote) → learners.Cell → Type 0
 LearnerSound votes t = (a : ℕ) → Member a (t .set) → Mem (vote a (t .round) (t .value)) votes
 
 pub record Sound (M : ℕ) (s : Slot) : Type 0 where

@@ -7,12 +7,12 @@ use mathlib.Core.Bool.{Bool, true, false, _&&_, _||_}
 use mathlib.Core.List.{List, [], _∷_}
 use lib.Dec.{eqb, ltb}
 use lib.ListN.{replicate}
-use Rattle.terms.specs.declared.Instance.{Instance}
-use Rattle.terms.specs.declared.Value.{Value}
-use Rattle.terms.specs.declared.Verdict.the-variants.{ToAcceptors, ToLeader, ToLearners, Hold, Decided}
-use Rattle.terms.specs.Rounds.{theInstance, theRound, none}
-use Rattle.terms.specs.Values.{theValue, null}
-use Rattle.terms.specs.Verdict.{verdictNumber}
+use Rattle.basics.specs.declared.Instance.{Instance}
+use Rattle.basics.specs.declared.Value.{Value}
+use Rattle.basics.specs.declared.Verdict.the-variants.{ToAcceptors, ToLeader, ToLearners, Hold, Decided}
+use Rattle.basics.specs.Rounds.{theInstance, theRound, none}
+use Rattle.basics.specs.Values.{theValue, null}
+use Rattle.basics.specs.Verdict.{verdictNumber}
 use Rattle.messages.specs.declared.Message.{Message}
 use Rattle.messages.specs.declared.Message.the-variants.{Request, Prepare, Promise, Propose, Vote}
 use Rattle.messages.specs.Message.{whenRequest}
@@ -20,12 +20,12 @@ use Rattle.wire.specs.declared.Reading.{Reading}
 use Rattle.wire.specs.declared.Reading.the-variants.{Read, Refused}
 use Rattle.wire.specs.Packet.{packetLength, readPacket, packetOf}
 use Rattle.quorum.specs.declared.Settings.{Settings}
-use Rattle.primary.specs.Primary.{lentStep}
+use Rattle.primary.specs.Primary.{primaryStep}
 use Rattle.acceptor.specs.Acceptor.{acceptorStep}
 use Rattle.backup.specs.Backup.{backupStep, backupStart}
 use Rattle.learner.specs.Learner.{learnerStep}
-use Rattle.holes.specs.declared.Hole.the-variants as holes
-use Rattle.holes.specs.Holes.{hole}
+use Rattle.learner_holes.specs.declared.Hole.the-variants as holes
+use Rattle.learner_holes.specs.Holes.{findHole}
 use Rattle.agreement.specs.Run.{Sent, Boxes, freshBoxes, afterPrimary, afterAcceptor, afterBackup, afterLearner, VoteSent, not-yet, says, said}
 use Rattle.agreement.specs.Agreement.{deliveredBy}
 
@@ -58,7 +58,7 @@ zeros = replicate packetLength 0
 
 -- The boxes after a row.
 abbrev pub after : Settings → Boxes → Row → Boxes
-after s w (primary-gets m answer) = afterPrimary w (lentStep s (packetOf m) (w .primary))
+after s w (primary-gets m answer) = afterPrimary w (primaryStep s (packetOf m) (w .primary))
 after s w (acceptor-gets own m answer) = afterAcceptor w own (acceptorStep s own (packetOf m) (w .acceptor own))
 after s w (backup-starts own i floor v answer) = afterBackup w own (backupStart s own i floor v zeros (w .backup own))
 after s w (backup-gets own m answer) = afterBackup w own (backupStep s own (packetOf m) (w .backup own))
@@ -66,11 +66,11 @@ after s w (learner-gets which m answer) = afterLearner w which (learnerStep s (p
 
 -- The call answers the row's number.
 abbrev pub answers : Settings → Boxes → Row → Bool
-answers s w (primary-gets m answer) = eqb (lentStep s (packetOf m) (w .primary) .verdict) answer
-answers s w (acceptor-gets own m answer) = eqb (acceptorStep s own (packetOf m) (w .acceptor own) .verdict) answer
-answers s w (backup-starts own i floor v answer) = eqb (backupStart s own i floor v zeros (w .backup own) .verdict) answer
-answers s w (backup-gets own m answer) = eqb (backupStep s own (packetOf m) (w .backup own) .verdict) answer
-answers s w (learner-gets which m answer) = eqb (learnerStep s (packetOf m) (w .learner which) .verdict) answer
+answers s w (primary-gets m answer) = eqb (primaryStep s (packetOf m) (w .primary) .answer) answer
+answers s w (acceptor-gets own m answer) = eqb (acceptorStep s own (packetOf m) (w .acceptor own) .answer) answer
+answers s w (backup-starts own i floor v answer) = eqb (backupStart s own i floor v zeros (w .backup own) .answer) answer
+answers s w (backup-gets own m answer) = eqb (backupStep s own (packetOf m) (w .backup own) .answer) answer
+answers s w (learner-gets which m answer) = eqb (learnerStep s (packetOf m) (w .learner which) .answer) answer
 
 -- Two packets are the same bytes.
 unfoldable pub sameBytes : List ℕ → List ℕ → Bool
@@ -231,10 +231,10 @@ pub record Computed : Type 0 where
   pub new-votes-heard : said three taken 1 first ≡ says v
   pub no-votes-heard : said three taken 2 first ≡ not-yet
   pub leaving-a-hole-plays : plays three (freshBoxes 2) leavingAHole ≡ true
-  pub the-hole : hole three (holed .learner 0) ≡ holes.At first
+  pub the-hole : findHole three (holed .learner 0) ≡ holes.Found first
   pub repairing-plays : plays three holed repairing ≡ true
   pub null-said : said three repaired 0 first ≡ says null
-  pub no-hole-left : hole three (repaired .learner 0) ≡ holes.Nowhere
+  pub no-hole-left : findHole three (repaired .learner 0) ≡ holes.NoHole
   pub both-delivered : deliveredBy three repaired 0 ≡ null ∷ u ∷ []
   pub splitting-plays : plays three (freshBoxes 2) splitting ≡ true
   pub the-other-said : said three split 0 first ≡ says u

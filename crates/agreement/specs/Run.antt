@@ -7,24 +7,26 @@ use mathlib.Core.List.{List, [], _∷_}
 use lib.Dec.{eqb}
 use lib.ListN.{length}
 use Rattle.numbers.specs.BigEndian.{Bytes}
-use Rattle.terms.specs.declared.Instance.{Instance}
-use Rattle.terms.specs.declared.Round.{Round}
-use Rattle.terms.specs.declared.Value.{Value}
-use Rattle.terms.specs.Ladder.{if_then_else_}
-use Rattle.terms.specs.Verdict.{saysSend}
+use Rattle.basics.specs.declared.Instance.{Instance}
+use Rattle.basics.specs.declared.Round.{Round}
+use Rattle.basics.specs.declared.Value.{Value}
+use Rattle.basics.specs.Ladder.{if_then_else_}
+use Rattle.basics.specs.Verdict.{saysSend}
 use Rattle.messages.specs.declared.Message.the-variants.{Request, Vote}
 use Rattle.wire.specs.declared.Reading.the-variants.{Read}
 use Rattle.wire.specs.Packet.{readPacket, Malformed}
-use Rattle.player.specs.Step.{Outcome}
+use Rattle.basics.specs.Outcome.{Outcome, Lent}
 use Rattle.quorum.specs.declared.Settings.{Settings}
 use Rattle.quorum.specs.Voters.{Mem, Distinct}
-use Rattle.primary.specs.Primary.{lentStep}
-use Rattle.acceptor.specs.Acceptor as acceptors
-use Rattle.backup.specs.Backup as backups
-use Rattle.tallies.specs.Tables as learners
+use Rattle.primary.specs.Primary.{primaryStep}
+use Rattle.acceptor_tables.specs.Tables as acceptors
+use Rattle.acceptor.specs.Acceptor.{acceptorStep}
+use Rattle.backup_tables.specs.Tables as backups
+use Rattle.backup.specs.Backup.{backupStep, backupStart}
+use Rattle.learner_tables.specs.Tables as learners
 use Rattle.learner.specs.declared.Answer.{Answer}
 use Rattle.learner.specs.declared.Answer.the-variants as answers
-use Rattle.learner.specs.Learner.{learnerStep, answer}
+use Rattle.learner.specs.Learner.{learnerStep, answerFor}
 
 -- Who makes a call. Acceptors and backups go by their own numbers; a learner has none, and the one here just tells it from the others.
 pub data Caller : Type 0 where
@@ -64,25 +66,25 @@ unfoldable pub put : {A : Type 0} → (before : ℕ → A) → (one : ℕ) → A
 put before one new other = if eqb one other then new else before other
 
 -- Where the verdict says to send, the packet as it is at exit is sent.
-abbrev pub sending : {Tables : Type 0} → Caller → Outcome Tables → List Sent → List Sent
-sending by o packets = if saysSend (o .verdict) then sent by (o .packet) ∷ packets else packets
+abbrev pub sending : {Tables : Type 0} → Caller → Outcome (Lent Tables) → List Sent → List Sent
+sending by o packets = if saysSend (o .answer) then sent by (o .left .packet) ∷ packets else packets
 
 -- The boxes after a call, by its outcome.
-abbrev pub afterPrimary : Boxes → Outcome (List ℕ) → Boxes
+abbrev pub afterPrimary : Boxes → Outcome (Lent (List ℕ)) → Boxes
 afterPrimary w o =
-    record { primary = o .tables; acceptor = w .acceptor; backup = w .backup; learner = w .learner; packets = sending the-primary o (w .packets) }
+    record { primary = o .left .tables; acceptor = w .acceptor; backup = w .backup; learner = w .learner; packets = sending the-primary o (w .packets) }
 
-abbrev pub afterAcceptor : Boxes → (own : ℕ) → Outcome acceptors.Tables → Boxes
+abbrev pub afterAcceptor : Boxes → (own : ℕ) → Outcome (Lent acceptors.Tables) → Boxes
 afterAcceptor w own o =
-    record { primary = w .primary; acceptor = put (w .acceptor) own (o .tables); backup = w .backup; learner = w .learner; packets = sending (acceptor own) o (w .packets) }
+    record { primary = w .primary; acceptor = put (w .acceptor) own (o .left .tables); backup = w .backup; learner = w .learner; packets = sending (acceptor own) o (w .packets) }
 
-abbrev pub afterBackup : Boxes → (own : ℕ) → Outcome backups.Tables → Boxes
+abbrev pub afterBackup : Boxes → (own : ℕ) → Outcome (Lent backups.Tables) → Boxes
 afterBackup w own o =
-    record { primary = w .primary; acceptor = w .acceptor; backup = put (w .backup) own (o .tables); learner = w .learner; packets = sending (backup own) o (w .packets) }
+    record { primary = w .primary; acceptor = w .acceptor; backup = put (w .backup) own (o .left .tables); learner = w .learner; packets = sending (backup own) o (w .packets) }
 
-abbrev pub afterLearner : Boxes → (which : ℕ) → Outcome learners.Tables → Boxes
+abbrev pub afterLearner : Boxes → (which : ℕ) → Outcome (Lent learners.Tables) → Boxes
 afterLearner w which o =
-    record { primary = w .primary; acceptor = w .acceptor; backup = w .backup; learner = put (w .learner) which (o .tables); packets = sending (learner which) o (w .packets) }
+    record { primary = w .primary; acceptor = w .acceptor; backup = w .backup; learner = put (w .learner) which (o .left .tables); packets = sending (learner which) o (w .packets) }
 
 -- A packet that may be handed over, to any player: a request, one refused by the reader, or a byte copy of one sent earlier.
 pub data Handed (w : Boxes) (p : List ℕ) : Type 0 where
@@ -101,22 +103,22 @@ pub record Given (instance : Instance) (floor : ℕ) (value : Value) (buffer : L
 -- One call. Own numbers that are not allowed are refused by the step itself. Answering, delivery, holes and saving are given the tables to read: their
 -- definitions return none and send nothing, so they leave the boxes as they are.
 pub data Call (s : Settings) (w : Boxes) : Boxes → Type 0 where
-  primary-steps : (p : List ℕ) → Handed w p → Call s w (afterPrimary w (lentStep s p (w .primary)))
-  acceptor-steps : (own : ℕ) (p : List ℕ) → Handed w p → Call s w (afterAcceptor w own (acceptors.acceptorStep s own p (w .acceptor own)))
-  backup-steps : (own : ℕ) (p : List ℕ) → Handed w p → Call s w (afterBackup w own (backups.backupStep s own p (w .backup own)))
+  primary-steps : (p : List ℕ) → Handed w p → Call s w (afterPrimary w (primaryStep s p (w .primary)))
+  acceptor-steps : (own : ℕ) (p : List ℕ) → Handed w p → Call s w (afterAcceptor w own (acceptorStep s own p (w .acceptor own)))
+  backup-steps : (own : ℕ) (p : List ℕ) → Handed w p → Call s w (afterBackup w own (backupStep s own p (w .backup own)))
   backup-starts : (own : ℕ) (instance : Instance) (floor : ℕ) (value : Value) (buffer : List ℕ) → Given instance floor value buffer
-      → Call s w (afterBackup w own (backups.backupStart s own instance floor value buffer (w .backup own)))
+      → Call s w (afterBackup w own (backupStart s own instance floor value buffer (w .backup own)))
   learner-steps : (which : ℕ) (p : List ℕ) → Handed w p → Call s w (afterLearner w which (learnerStep s p (w .learner which)))
   only-reads : Call s w w
 
--- The boxes after any number of calls more.
-pub data Later (s : Settings) (w : Boxes) : Boxes → Type 0 where
-  now : Later s w w
-  and-then : {u x : Boxes} → Later s w u → Call s u x → Later s w x
+-- The boxes after any number of calls more. Which calls there are is the kind of run: a relation of the boxes before a call and after it.
+pub data Later (Calls : Boxes → Boxes → Type 0) (w : Boxes) : Boxes → Type 0 where
+  now : Later Calls w w
+  and-then : {u x : Boxes} → Later Calls w u → Calls u x → Later Calls w x
 
--- The boxes of a run.
-abbrev pub Run : Settings → Boxes → Type 0
-Run s w = Later s (freshBoxes (s .instances)) w
+-- The boxes of a run of that kind.
+abbrev pub Run : (Calls : Boxes → Boxes → Type 0) → Settings → Boxes → Type 0
+Run Calls s w = Later Calls (freshBoxes (s .instances)) w
 
 -- The acceptor's own call sent a vote packet, for this instance, round and value.
 pub record VoteSent (packets : List Sent) (own : ℕ) (instance : Instance) (round : Round) (value : Value) : Type 0 where
@@ -146,4 +148,4 @@ saidBy answers.NotYet = not-yet
 saidBy (answers.Refused number) = nothing
 
 abbrev pub said : Settings → Boxes → (which : ℕ) → Instance → Said
-said s w which instance = saidBy (answer s instance (w .learner which))
+said s w which instance = saidBy (answerFor s instance (w .learner which))

@@ -4,14 +4,15 @@
 use mathlib.Core.Path.{_≡_}
 use mathlib.Core.Bool.{true}
 use mathlib.Core.List.{List, [], _∷_}
-use Rattle.terms.specs.declared.Value.{Value}
-use Rattle.terms.specs.Rounds.{theRound, none}
-use Rattle.terms.specs.Values.{null}
+use Rattle.basics.specs.declared.Value.{Value}
+use Rattle.basics.specs.Rounds.{theRound, none}
+use Rattle.basics.specs.Values.{null}
 use Rattle.messages.specs.declared.Message.the-variants.{Request, Prepare, Promise, Propose}
-use Rattle.acceptor.specs.Acceptor as acceptors
-use Rattle.tallies.specs.Tables as learners
+use Rattle.acceptor_tables.specs.Tables as acceptors
+use Rattle.learner_tables.specs.Tables as learners
 use Rattle.agreement.specs.Run.{Boxes, freshBoxes, put, Decided, says, said}
-use Rattle.agreement.specs.Examples.{toAcceptors, toLeader, toLearners, hold, Row, primary-gets, acceptor-gets, backup-starts, backup-gets, played, plays, three, first, v, u, split}
+use Rattle.agreement.specs.Examples.{toAcceptors, toLeader, toLearners, hold, Row, primary-gets, acceptor-gets, backup-starts, backup-gets}
+use Rattle.agreement.specs.Examples.{played, plays, three, first, v, u, split}
 
 -- The rows can be played, and two values are decided after them.
 pub record TwoDecided (w : Boxes) (rows : List Row) (one other : Value) : Type 0 where

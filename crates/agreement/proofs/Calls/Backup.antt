@@ -1,24 +1,20 @@
--- A backup's step and start leave boxes that stand for sound slots.
+-- A backup's step and start leave boxes that represent sound slots.
 -- Assumes nothing.
 use Prim.Native.Nat.{ℕ, _<_, max}
 use mathlib.Core.Path.{_≡_, refl, sym, ap, _∙_, subst}
 use mathlib.Core.Bool.{true, false}
 use mathlib.Core.List.{List, _∷_}
-use Rattle.terms.specs.declared.Instance.{Instance}
-use Rattle.terms.specs.declared.Place.the-variants.{At, Nowhere}
-use Rattle.terms.specs.declared.Round.{Round}
-use Rattle.terms.specs.declared.Value.{Value}
-use Rattle.terms.specs.declared.Verdict.the-variants.{ToAcceptors, Hold}
-use Rattle.terms.specs.Ladder.{if_then_else_}
-use Rattle.terms.specs.Rounds.{theRound}
-use Rattle.terms.specs.Places.{placed}
-use Rattle.terms.specs.Verdict.{saysSend}
-use Rattle.terms.proofs.Ladder.{if-elim, if-false}
-use Rattle.terms.proofs.Places.{PlacedBy, placed-index, placed-by}
+use Rattle.basics.specs.declared.Instance.{Instance}
+use Rattle.basics.specs.declared.Round.{Round}
+use Rattle.basics.specs.declared.Value.{Value}
+use Rattle.basics.specs.declared.Verdict.the-variants.{ToAcceptors, Hold}
+use Rattle.basics.specs.Ladder.{if_then_else_}
+use Rattle.basics.specs.Rounds.{theRound}
+use Rattle.basics.specs.Verdict.{saysSend}
+use Rattle.basics.proofs.Ladder.{if-elim, if-false}
+use Rattle.basics.proofs.Places.{placed-index}
 use Rattle.messages.specs.declared.Message.{Message}
 use Rattle.messages.specs.declared.Message.the-variants as kind
-use Rattle.messages.specs.Message.{whenPromise}
-use Rattle.messages.proofs.Eliminators.{promise-elim}
 use Rattle.wire.specs.declared.Reading.the-variants.{Read}
 use Rattle.wire.specs.Packet.{packetOf}
 use Rattle.wire.proofs.Laws.{Writable, read-writable}
@@ -27,42 +23,40 @@ use Rattle.quorum.specs.declared.Settings.{Settings}
 use Rattle.quorum.specs.Quorum.{Quorum, within, reachesMajority}
 use Rattle.quorum.specs.Voters.{Mem, newest, older}
 use Rattle.quorum.proofs.Laws.{with-member-within}
-use Rattle.bid.specs.declared.Cell.{Cell}
-use Rattle.bid.specs.Bid.{asking}
-use Rattle.takeover.specs.Takeover.{counting, chosen, closed, started, nextRound, whenMajority}
-use Rattle.takeover.proofs.Next.{next-smallest}
-use Rattle.takeover.proofs.Laws.{rule-elim, asking-started, start-rule-elim}
-use Rattle.backup.specs.Backup.{Tables, cellAt, withCell, Sized, backupStep, backupStart}
+use Rattle.backup_cell.specs.declared.Cell.{Cell}
+use Rattle.backup_cell.specs.Cell.{asking}
+use Rattle.backup_rule.specs.Rule.{counting, chosen, closed, started, nextRound, whenMajority}
+use Rattle.backup_rule.proofs.Next.{next-smallest}
+use Rattle.backup_cell.proofs.Laws.{asking-started}
+use Rattle.backup_rule.proofs.Laws.{start-rule-elim}
+use Rattle.backup_tables.specs.Tables.{Tables, cellAt, withCell, Sized}
+use Rattle.backup_tables.proofs.Laws.{allowed-tables, index-within, cell-there, cell-apart}
+use Rattle.backup.specs.Backup.{place, backupStep, backupStart}
 use Rattle.backup.specs.Backup as players
-use Rattle.backup.proofs.Promises.{start-elim, propose-sent, prepare-sent, cell-there, cell-apart}
-use Rattle.backup.proofs.Ways.{allowed-tables, index-within}
+use Rattle.backup.proofs.Laws.{rule-elim, place-elim, promise-placed, start-elim}
+use Rattle.backup.proofs.Promises.{propose-sent, prepare-sent}
 use Rattle.agreement.specs.Run.{backup, Sent, sent, Boxes, put, afterBackup, Handed, Given}
-use Rattle.agreement.proofs.Basics.{Owned, owned, extend, put-all, put-same}
+use Rattle.agreement.proofs.Families.{Owned, owned, extend, put-all, put-same}
 use Rattle.agreement.proofs.Slot.{Slot, promise, propose, Sound, Unopened}
 use Rattle.agreement.proofs.Slot.Proposing.{moving, proposing}
 use Rattle.agreement.proofs.Slot.Backup as slot
-use Rattle.agreement.proofs.Standing.{a-prepare, a-propose, Told, Holds, Grows, met, met-promise, told-same, told-more, vote-still, cells-moved, acceptors-same, learners-same, all-sound, inside-still, unopened-still, step-acts}
-use Rattle.agreement.proofs.Tidy.{Tidy, handed-bytes}
+use Rattle.agreement.proofs.Representing.{a-prepare, a-propose, Told, PlacedAt, Represents, Grows, met, met-promise, told-same}
+use Rattle.agreement.proofs.Representing.{told-more, vote-still, cells-moved, acceptors-same, learners-same, all-sound, still-placed, unopened-still, step-acts}
+use Rattle.agreement.proofs.WellFormed.{WellFormed, handed-bytes}
 
--- a promise's place
-place-of : (N a : ℕ) (i : Instance) (r k : Round) (v : Value) (index : ℕ)
-    → whenPromise (λ sender instance round voteRound value. placed N instance) (Nowhere 6) (kind.Promise a i r k v) ≡ At index → (index ≡ i .0) × (index < N)
-unfolding whenPromise
-place-of N a i r k v index e = placed-index N i index e
-
-module _ {s : Settings} {w : Boxes} (tidy : Tidy s w) (h : Holds s w) (own : ℕ) where
+module _ {s : Settings} {w : Boxes} (formed : WellFormed s w) (h : Represents s w) (own : ℕ) where
   abbrev t : Tables
   t = w .backup own
 
-  refuses : (p : List ℕ) (number : ℕ) → saysSend number ≡ false → Holds s (afterBackup w own (unchanged p t number))
+  refuses : (p : List ℕ) (number : ℕ) → saysSend number ≡ false → Represents s (afterBackup w own (unchanged p t number))
   refuses p number quiet = record {
     slots = h .slots;
     acceptors = h .acceptors;
-    backups = put-all (λ b u. (i : ℕ) → i < s .instances → cellAt u i ≡ h .slots i .backup b) (h .backups own) (h .backups);
+    backups = put-all (λ b u. (i index : ℕ) → PlacedAt (s .instances) i index → cellAt u index ≡ h .slots i .backup b) (h .backups own) (h .backups);
     learners = h .learners;
     told = subst (λ l. Told l (h .slots)) (sym (if-false (sent (backup own) p ∷ w .packets) (w .packets) quiet)) (h .told);
     sound = h .sound;
-    inside = h .inside;
+    has-place = h .has-place;
     unopened = h .unopened;
   }
 
@@ -73,27 +67,27 @@ module _ {s : Settings} {w : Boxes} (tidy : Tidy s w) (h : Holds s w) (own : ℕ
   abbrev sending : Message → List Sent
   sending m = sent (backup own) (packetOf m) ∷ w .packets
 
-  module _ (i : Instance) (below : i .0 < s .instances) (sized : Sized (s .instances) t) where
+  module _ (i : Instance) (index : ℕ) (at : PlacedAt (s .instances) (i .0) index) (sized : Sized (s .instances) t) where
     abbrev before : Slot
     before = h .slots (i .0)
 
     moves : (packets : List Sent) (c : Cell) (next : Slot) → Sound (s .acceptors) next → ((b : ℕ) → next .backup b ≡ put (before .backup) own c b)
         → ((a : ℕ) → next .acceptor a ≡ before .acceptor a) → ((l : ℕ) → next .learner l ≡ before .learner l) → (Unopened before → Unopened next)
-        → Told packets (put (h .slots) (i .0) next) → Holds s (stored (i .0) c packets)
+        → Told packets (put (h .slots) (i .0) next) → Represents s (stored index c packets)
     moves packets c next sound backups acceptors learners unopened told = record {
       slots = put (h .slots) (i .0) next;
       acceptors = acceptors-same h (i .0) next acceptors;
       backups =
-          cells-moved (s .instances) cellAt (λ (x : Slot). x .backup) (h .slots) (w .backup) (h .backups) (i .0) next own (withCell t (i .0) c) c backups
-          (cell-there t (i .0) c (index-within t (i .0) sized below)) (λ n differs. cell-apart t (i .0) n c differs);
+          cells-moved (s .instances) cellAt (λ (x : Slot). x .backup) (h .slots) (w .backup) (h .backups) (i .0) next own (withCell t index c) c index at backups
+          (cell-there t index c (index-within t index sized (placed-index (s .instances) i index at .1))) (λ n differs. cell-apart t index n c differs);
       learners = learners-same h (i .0) next learners;
       told = told;
       sound = all-sound h (i .0) next sound;
-      inside = inside-still h (i .0) next (λ _ _. below);
+      has-place = still-placed h (i .0) next (λ _ _. (index, at));
       unopened = unopened-still h (i .0) next unopened;
     }
 
-    starts : (r : Round) (v : Value) → Writable (kind.Prepare i r) → before .backup own .round .0 < r .0 → Holds s (stored (i .0) (started r v) (sending (kind.Prepare i r)))
+    starts : (r : Round) (v : Value) → Writable (kind.Prepare i r) → before .backup own .round .0 < r .0 → Represents s (stored index (started r v) (sending (kind.Prepare i r)))
     starts r v writable above =
         let next = moving before (put (before .backup) own (started r v)) in
         let grows : Grows before next = record { promises = λ x m. m; proposes = λ x m. m; votes = λ x m. m } in
@@ -106,15 +100,15 @@ module _ {s : Settings} {w : Boxes} (tidy : Tidy s w) (h : Holds s w) (own : ℕ
       abbrev counted : Cell
       counted = counting (before .backup own) a k v
 
-      holds : Holds s (stored (i .0) counted (w .packets))
-      holds =
+      held : Represents s (stored index counted (w .packets))
+      held =
           let next = moving before (put (before .backup) own counted) in
           let grows : Grows before next = record { promises = λ x m. m; proposes = λ x m. m; votes = λ x m. m } in
           moves (w .packets) counted next (slot.holds (h .sound (i .0)) own a k v told asks) (λ _. refl) (λ _. refl) (λ _. refl) (λ u. u)
           (told-same (h .told) (i .0) next grows (λ x m. m))
 
       proposes : Owned own (before .backup own .round) → Quorum (s .acceptors) (counted .set) → Writable (kind.Propose i (counted .round) (chosen counted))
-          → Holds s (stored (i .0) (closed counted) (sending (kind.Propose i (counted .round) (chosen counted))))
+          → Represents s (stored index (closed counted) (sending (kind.Propose i (counted .round) (chosen counted))))
       proposes mine quorum writable =
           let next = proposing (moving before (put (before .backup) own (closed counted))) (propose (counted .round) (chosen counted)) in
           let grows : Grows before next = record { promises = λ x m. m; proposes = λ x m. older m; votes = λ x m. m } in
@@ -128,56 +122,53 @@ module _ {s : Settings} {w : Boxes} (tidy : Tidy s w) (h : Holds s w) (own : ℕ
     takes : (a : ℕ) (r k : Round) (v : Value) (p : List ℕ) (c : Cell) → before .backup own ≡ c → Mem (promise a r k v) (before .promises) → r .0 ≡ c .round .0
         → c .phase ≡ asking → Owned own (c .round) → a < s .acceptors → within (s .acceptors) (c .set) ≡ true
         → (reachesMajority (s .acceptors) (counting c a k v .set) ≡ true → Writable (kind.Propose i (counting c a k v .round) (chosen (counting c a k v))))
-        → Holds s (afterBackup w own (ruled p t (withCell t (i .0)) (whenMajority (s .acceptors) i (counting c a k v))))
+        → Represents s (afterBackup w own (ruled p t (withCell t index) (whenMajority (s .acceptors) i (counting c a k v))))
     unfolding whenMajority ruled saysSend if_then_else_
     takes a r k v p c e told same asks mine known inside writable =
-        subst (λ (d : Cell). c ≡ d → Holds s (afterBackup w own (ruled p t (withCell t (i .0)) (whenMajority (s .acceptors) i (counting d a k v))))) e
+        subst (λ (d : Cell). c ≡ d → Represents s (afterBackup w own (ruled p t (withCell t index) (whenMajority (s .acceptors) i (counting d a k v))))) e
         (λ back.
         let d = before .backup own in
         let current : r ≡ d .round = λ j. theRound ((same ∙ ap (λ (x : Cell). x .round .0) back) j) in
         let here : Mem (promise a (d .round) k v) (before .promises) = subst (λ x. Mem (promise a x k v) (before .promises)) current told in
         let asking-still : d .phase ≡ asking = rw (← back) asks in
         let grown = slot.counts (h .sound (i .0)) own a k v here .grown in
-        if-elim (λ o. Holds s (afterBackup w own (ruled p t (withCell t (i .0)) o))) (reachesMajority (s .acceptors) (counting d a k v .set))
+        if-elim (λ o. Represents s (afterBackup w own (ruled p t (withCell t index) o))) (reachesMajority (s .acceptors) (counting d a k v .set))
         (sends ToAcceptors (kind.Propose i (counting d a k v .round) (chosen (counting d a k v))) (closed (counting d a k v))) (counts Hold (counting d a k v))
         (λ reached. proposes a k v here asking-still (rw (← back) mine)
         (record { inside = rw grown (with-member-within (s .acceptors) (d .set) a (rw (← back) inside) known); enough = reached }) (rw (← back) (writable (rw back reached))))
-        (λ _. holds a k v here asking-still))
+        (λ _. held a k v here asking-still))
         refl
 
-  pub backup-holds : (p : List ℕ) → Handed w p → Holds s (afterBackup w own (backupStep s own p t))
+  pub backup-represents : (p : List ℕ) → Handed w p → Represents s (afterBackup w own (backupStep s own p t))
   unfolding backupStep players.backup saysSend ruled
-  backup-holds p handed =
-      step-acts (players.backup s own) p t (λ o. Holds s (afterBackup w own o)) (refuses p)
-      (λ m. promise-elim (PlacedBy (λ n. saysSend n ≡ false)) _ _ m (λ _ i _ _ _ _. placed-by (λ n. saysSend n ≡ false) (s .instances) i refl) refl)
+  backup-represents p handed =
+      step-acts (players.backup s own) p t (λ o. Represents s (afterBackup w own o)) (refuses p)
+      (λ m. place-elim (λ n. saysSend n ≡ false) (s .instances) m refl refl)
       (λ allowed m reads index stands.
       let brings = allowed-tables s own t allowed in
       let M = s .acceptors in
-      rule-elim (λ r. Holds s (afterBackup w own (ruled p t (withCell t index) r))) M own (cellAt t index) m (refuses p 6 refl) (refuses p 9 refl) (refuses p 17 refl)
+      let c = cellAt t index in
+      rule-elim (λ r. Represents s (afterBackup w own (ruled p t (withCell t index) r))) M own c m (refuses p 6 refl) (refuses p 9 refl) (refuses p 17 refl)
       (refuses p 11 refl) (refuses p 15 refl)
       (λ a i r k v e known fine asks same absent.
-      let writable = read-writable p _ (handed-bytes tidy handed) (reads ∙ ap Read e) in
-      let at = place-of (s .instances) a i r k v index (subst (λ x. players.backup s own .place x ≡ At index) e stands) in
-      let begun = asking-started M own (cellAt t index) fine asks in
-      subst (λ j. cellAt t j ≡ cellAt t index → Holds s (afterBackup w own (ruled p t (withCell t j) (whenMajority M i (counting (cellAt t index) a k v))))) (sym (at .0))
-      (λ there. takes i (rw (← at .0) (at .1)) (brings .sized) a r k v p (cellAt t index) (sym (h .backups own (i .0) (rw (← at .0) (at .1))) ∙ there)
-      (met-promise (met h handed (reads ∙ ap Read e))) same asks (owned own _ (brings .own-least) (brings .own-most) (begun .mine)) known (begun .inside)
-      (λ _. propose-sent s own t index a i r k v allowed (tidy .backups own .fitting) writable known fine asks same absent))
-      refl))
+      let writable = read-writable p _ (handed-bytes formed handed) (reads ∙ ap Read e) in
+      let at : PlacedAt (s .instances) (i .0) index = sym (promise-placed (s .instances) a i r k v) ∙ ap (place (s .instances)) (sym e) ∙ stands in
+      let begun = asking-started M own c fine asks in
+      takes i index at (brings .sized) a r k v p c (sym (h .backups own (i .0) index at)) (met-promise (met h handed (reads ∙ ap Read e))) same asks
+      (owned own _ (brings .own-least) (brings .own-most) (begun .mine)) known (begun .inside)
+      (λ _. propose-sent s own t index a i r k v allowed (formed .backups own .fitting) writable known fine asks same absent)))
 
-  pub start-holds : (i : Instance) (floor : ℕ) (v : Value) (buffer : List ℕ) → Given i floor v buffer → Holds s (afterBackup w own (backupStart s own i floor v buffer t))
+  pub start-represents : (i : Instance) (floor : ℕ) (v : Value) (buffer : List ℕ) → Given i floor v buffer
+      → Represents s (afterBackup w own (backupStart s own i floor v buffer t))
   unfolding saysSend ruled if_then_else_
-  start-holds i floor v buffer given =
-      start-elim s own i floor v buffer t (λ o. Holds s (afterBackup w own o)) (refuses buffer 7 refl) (refuses buffer 1 refl) (refuses buffer 8 refl)
-      (λ allowed index stands.
+  start-represents i floor v buffer given =
+      start-elim s own i floor v buffer t (λ o. Represents s (afterBackup w own o)) (refuses buffer 7 refl) (refuses buffer 1 refl) (refuses buffer 8 refl)
+      (λ allowed index at.
       let brings = allowed-tables s own t allowed in
-      let at = placed-index (s .instances) i index stands in
-      start-rule-elim (λ r. Holds s (afterBackup w own (ruled buffer t (withCell t index) r))) (s .acceptors) own (cellAt t index) i floor v
+      start-rule-elim (λ r. Represents s (afterBackup w own (ruled buffer t (withCell t index) r))) (s .acceptors) own (cellAt t index) i floor v
       (refuses buffer 17 refl) (refuses buffer 16 refl)
       (λ low.
       let r = theRound (nextRound own (max (cellAt t index .round .0) floor)) in
       let above = next-smallest own (cellAt t index .round .0) floor (brings .own-least) (brings .own-most) low .above-held in
       let writable = prepare-sent s own i floor v t index (given .instance-fits) allowed low in
-      let inside : i .0 < s .instances = rw (← at .0) (at .1) in
-      subst (λ j. cellAt t j ≡ cellAt t index → Holds s (stored j (started r v) (sending (kind.Prepare i r)))) (sym (at .0))
-      (λ there. starts i inside (brings .sized) r v writable (subst (λ (c : Cell). c .round .0 < r .0) (sym there ∙ h .backups own (i .0) inside) above)) refl))
+      starts i index at (brings .sized) r v writable (subst (λ (c : Cell). c .round .0 < r .0) (h .backups own (i .0) index at) above)))

@@ -6,39 +6,37 @@ use mathlib.Core.Bool.{false}
 use mathlib.Core.List.{List, [], _∷_}
 use native.Mathlib.Omega.{arith}
 use lib.ListN.{getD}
-use Rattle.terms.specs.declared.Value.{Value}
-use Rattle.terms.specs.Ladder.{if_then_else_}
-use Rattle.terms.specs.Rounds.{theInstance, theRound}
-use Rattle.terms.specs.Verdict.{saysSend}
-use Rattle.terms.proofs.Ladder.{if-false}
-use Rattle.terms.proofs.Places.{PlacedBy}
+use Rattle.basics.specs.declared.Value.{Value}
+use Rattle.basics.specs.Ladder.{if_then_else_}
+use Rattle.basics.specs.Rounds.{theInstance, theRound}
+use Rattle.basics.specs.Verdict.{saysSend}
+use Rattle.basics.proofs.Ladder.{if-false}
 use Rattle.messages.specs.declared.Message.the-variants as kind
-use Rattle.messages.proofs.Eliminators.{request-elim}
 use Rattle.wire.specs.declared.Reading.the-variants.{Read}
 use Rattle.wire.specs.Packet.{packetOf}
 use Rattle.wire.proofs.Laws.{Writable, read-writable}
 use Rattle.player.specs.Step.{unchanged, ruled}
 use Rattle.quorum.specs.declared.Settings.{Settings}
 use Rattle.quorum.specs.Voters.{newest, older}
-use Rattle.sequence.specs.Sequence.{thePrimary, primary, primaryStep}
-use Rattle.primary.specs.Primary.{lent, lentStep}
-use Rattle.primary.proofs.Laws.{lent-is-the-record}
-use Rattle.sequence.proofs.Promises.{rule-elim, proposed-writable}
+use Rattle.primary_rule.specs.Rule.{cell}
+use Rattle.primary.specs.Primary.{primaryStep, primaryRequest, primaryByReference}
+use Rattle.primary.proofs.Laws.{asSlice, slice-is-the-record, rule-elim, place-elim}
+use Rattle.primary.proofs.Promises.{proposed-writable}
 use Rattle.agreement.specs.Run.{the-primary, sent, Boxes, put, afterPrimary, Handed}
-use Rattle.agreement.proofs.Basics.{put-elim, put-same}
+use Rattle.agreement.proofs.Families.{put-elim, put-same}
 use Rattle.agreement.proofs.Slot.{propose, Unopened}
 use Rattle.agreement.proofs.Slot.Proposing.{proposing, primary-proposes}
-use Rattle.agreement.proofs.Standing.{a-propose, Told, Holds, Grows, told-more, vote-still, acceptors-same, backups-same, learners-same, all-sound, inside-still, step-acts}
-use Rattle.agreement.proofs.Tidy.{Tidy, handed-bytes}
+use Rattle.agreement.proofs.Representing.{a-propose, Told, Represents, Grows, told-more, vote-still, acceptors-same, backups-same, learners-same, all-sound, still-placed, step-acts}
+use Rattle.agreement.proofs.WellFormed.{WellFormed, handed-bytes}
 
-module _ {s : Settings} {w : Boxes} (tidy : Tidy s w) (h : Holds s w) where
+module _ {s : Settings} {w : Boxes} (formed : WellFormed s w) (h : Represents s w) where
   abbrev next : ℕ
-  next = tidy .primary .next
+  next = formed .primary .next
 
   is-next : getD (w .primary) 0 0 ≡ next
-  is-next = ap (λ l. getD l 0 0) (tidy .primary .is)
+  is-next = ap (λ l. getD l 0 0) (formed .primary .is)
 
-  refuses : (p : List ℕ) (number : ℕ) → saysSend number ≡ false → Holds s (afterPrimary w (lent (unchanged p (thePrimary next) number)))
+  refuses : (p : List ℕ) (number : ℕ) → saysSend number ≡ false → Represents s (afterPrimary w (asSlice (unchanged p (cell (theInstance next)) number)))
   refuses p number quiet = record {
     slots = h .slots;
     acceptors = h .acceptors;
@@ -46,7 +44,7 @@ module _ {s : Settings} {w : Boxes} (tidy : Tidy s w) (h : Holds s w) where
     learners = h .learners;
     told = subst (λ l. Told l (h .slots)) (sym (if-false (sent the-primary p ∷ w .packets) (w .packets) quiet)) (h .told);
     sound = h .sound;
-    inside = h .inside;
+    has-place = h .has-place;
     unopened = λ i low. h .unopened i (omega (arith, is-next));
   }
 
@@ -60,7 +58,7 @@ module _ {s : Settings} {w : Boxes} (tidy : Tidy s w) (h : Holds s w) where
     packets = sent the-primary (packetOf (kind.Propose (theInstance next) (theRound 0) v)) ∷ w .packets;
   }
 
-  opens : (v : Value) → Writable (kind.Propose (theInstance next) (theRound 0) v) → Holds s (opened v)
+  opens : (v : Value) → Writable (kind.Propose (theInstance next) (theRound 0) v) → Represents s (opened v)
   opens v writable =
       let before = h .slots next in
       let after = proposing before (propose (theRound 0) v) in
@@ -74,17 +72,17 @@ module _ {s : Settings} {w : Boxes} (tidy : Tidy s w) (h : Holds s w) where
             told-more (h .told) next after grows the-primary _ writable (a-propose (rw put-same (newest refl)))
             (λ x m. vote-still (h .told) next after grows the-primary _ writable (h .told .votes (theInstance next) x m));
         sound = all-sound h next after (primary-proposes (h .sound next) v (h .unopened next (omega (arith, is-next))));
-        inside = inside-still h next after (h .inside next);
+        has-place = still-placed h next after (h .has-place next);
         unopened = put-elim (λ i x. next + 1 ≤ i → Unopened x) (λ low. absurd (omega arith)) (λ i _ low. h .unopened i (omega (arith, is-next)));
       }
 
-  pub primary-holds : (p : List ℕ) → Handed w p → Holds s (afterPrimary w (lentStep s p (w .primary)))
-  unfolding primaryStep saysSend ruled if_then_else_
-  primary-holds p handed =
-      let held = thePrimary next in
-      subst (λ o. Holds s (afterPrimary w o)) (sym (ap (lentStep s p) (tidy .primary .is) ∙ lent-is-the-record s p next))
-      (step-acts (primary s) p held (λ o. Holds s (afterPrimary w (lent o))) (refuses p)
-      (λ m. request-elim (PlacedBy (λ n. saysSend n ≡ false)) _ _ m (λ _ _ _. tt) refl)
+  pub primary-represents : (p : List ℕ) → Handed w p → Represents s (afterPrimary w (primaryStep s p (w .primary)))
+  unfolding primaryRequest primaryByReference saysSend ruled if_then_else_
+  primary-represents p handed =
+      let held = cell (theInstance next) in
+      subst (λ o. Represents s (afterPrimary w o)) (sym (ap (primaryStep s p) (formed .primary .is) ∙ slice-is-the-record s p next))
+      (step-acts (primaryByReference s) p held (λ o. Represents s (afterPrimary w (asSlice o))) (refuses p)
+      (λ m. place-elim (λ n. saysSend n ≡ false) m refl)
       (λ _ m reads index _.
-      rule-elim (λ r. Holds s (afterPrimary w (lent (ruled p held (λ c. c) r)))) (s .instances) held m (refuses p 6 refl) (refuses p 17 refl) (refuses p 12 refl)
-      (λ switch v asks _. opens v (proposed-writable held switch v (tidy .primary .fits) (read-writable p _ (handed-bytes tidy handed) (reads ∙ ap Read asks))))))
+      rule-elim (λ r. Represents s (afterPrimary w (asSlice (ruled p held (λ c. c) r)))) (s .instances) held m (refuses p 6 refl) (refuses p 17 refl) (refuses p 12 refl)
+      (λ switch v asks _. opens v (proposed-writable held switch v (formed .primary .fits) (read-writable p _ (handed-bytes formed handed) (reads ∙ ap Read asks))))))

@@ -5,14 +5,14 @@ use mathlib.Core.Path.{_≡_}
 use mathlib.Core.List.{_∷_}
 use native.Mathlib.Nat.{lt-of-lt-of-le, le-refl, le-trans}
 use native.Mathlib.Omega.{arith}
-use Rattle.terms.specs.declared.Round.{Round}
-use Rattle.terms.specs.Rounds.{rank}
-use Rattle.terms.proofs.Rounds.{rank-some, rank-most}
+use Rattle.basics.specs.declared.Round.{Round}
+use Rattle.basics.specs.Rounds.{rank}
+use Rattle.basics.proofs.Rounds.{rank-some, rank-most}
 use Rattle.quorum.specs.Voters.{Mem, older}
-use Rattle.ballot.specs.declared.Cell.{Cell}
-use Rattle.ballot.specs.Ballot.{cell}
+use Rattle.acceptor_rule.specs.declared.Cell.{Cell}
+use Rattle.acceptor_rule.specs.Rule.{cell}
 use Rattle.agreement.specs.Run.{put}
-use Rattle.agreement.proofs.Basics.{extend, put-same, put-all}
+use Rattle.agreement.proofs.Families.{extend, put-same, put-all}
 use Rattle.agreement.proofs.Slot.{Slot, Sound, Promise, Propose, AcceptorSound, promise, vote}
 
 -- The slot after acceptor a obeyed a prepare of round r, and sent its promise.

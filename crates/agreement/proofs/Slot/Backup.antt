@@ -10,20 +10,20 @@ use native.Mathlib.Decide.{decLt}
 use native.Mathlib.Omega.{arith}
 use lib.Dec.{eqb}
 use borrow.Author.Tests.{leb-true, leb-false}
-use Rattle.terms.specs.declared.Round.{Round}
-use Rattle.terms.specs.declared.Value.{Value}
-use Rattle.terms.specs.Ladder.{if_then_else_}
-use Rattle.terms.specs.Rounds.{theRound, isNone, ownerOf, rank, atMost}
-use Rattle.terms.proofs.Ladder.{if-elim}
-use Rattle.terms.proofs.Rounds.{rank-none, rank-some}
+use Rattle.basics.specs.declared.Round.{Round}
+use Rattle.basics.specs.declared.Value.{Value}
+use Rattle.basics.specs.Ladder.{if_then_else_}
+use Rattle.basics.specs.Rounds.{theRound, isNone, ownerOf, rank, atMost}
+use Rattle.basics.proofs.Ladder.{if-elim}
+use Rattle.basics.proofs.Rounds.{rank-none, rank-some}
 use Rattle.quorum.specs.Quorum.{Member, Quorum, withMember}
 use Rattle.quorum.specs.Voters.{Mem}
 use Rattle.quorum.proofs.Laws.{empty-bit, with-member-cases}
-use Rattle.bid.specs.declared.Cell.{Cell}
-use Rattle.bid.specs.Bid.{asking, proposed}
-use Rattle.takeover.specs.Takeover.{started, counting, chosen, closed}
+use Rattle.backup_cell.specs.declared.Cell.{Cell}
+use Rattle.backup_cell.specs.Cell.{asking, proposed}
+use Rattle.backup_rule.specs.Rule.{started, counting, chosen, closed}
 use Rattle.agreement.specs.Run.{put}
-use Rattle.agreement.proofs.Basics.{Owned, put-same, put-all}
+use Rattle.agreement.proofs.Families.{Owned, put-same, put-all}
 use Rattle.agreement.proofs.Slot.{Slot, Sound, Propose, Vote, Barred, BackupSound, Counted, promise, propose, spent}
 use Rattle.agreement.proofs.Slot.Proposing.{moving, proposing, moves, proposes}
 

@@ -4,23 +4,23 @@ use Prim.Native.Nat.{ℕ}
 use mathlib.Core.Path.{_≡_}
 use mathlib.Core.List.{List}
 use mathlib.Core.Logic.{_⊎_, inl, inr}
-use Rattle.terms.specs.declared.Round.{Round}
-use Rattle.terms.specs.declared.Value.{Value}
+use Rattle.basics.specs.declared.Round.{Round}
+use Rattle.basics.specs.declared.Value.{Value}
 use Rattle.quorum.specs.Quorum.{Member}
 use Rattle.quorum.specs.Voters.{Mem}
 use Rattle.quorum.proofs.Laws.{with-member-cases}
-use Rattle.tally.specs.declared.Tally.{Tally}
-use Rattle.tally.specs.Tally.{withVoter}
+use Rattle.learner_cell.specs.declared.Cell.{Cell}
+use Rattle.learner_cell.specs.Cell.{withVoter}
 use Rattle.agreement.specs.Run.{put}
-use Rattle.agreement.proofs.Basics.{put-all}
+use Rattle.agreement.proofs.Families.{put-all}
 use Rattle.agreement.proofs.Slot.{Slot, Sound, LearnerSound, Vote, vote}
 
 -- The slot with another cell of learner l.
-abbrev pub listening : Slot → (l : ℕ) → Tally → Slot
+abbrev pub listening : Slot → (l : ℕ) → Cell → Slot
 listening s l t =
     record { acceptor = s .acceptor; backup = s .backup; learner = put (s .learner) l t; promises = s .promises; proposes = s .proposes; votes = s .votes }
 
-pub listens : {M : ℕ} {s : Slot} → Sound M s → (l : ℕ) (t : Tally) → LearnerSound (s .votes) t → Sound M (listening s l t)
+pub listens : {M : ℕ} {s : Slot} → Sound M s → (l : ℕ) (t : Cell) → LearnerSound (s .votes) t → Sound M (listening s l t)
 listens {s = s} sound l t cell = record {
   vote-proposed = sound .vote-proposed;
   vote-known = sound .vote-known;

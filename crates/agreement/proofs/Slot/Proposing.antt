@@ -6,11 +6,11 @@ use mathlib.Core.Bool.{false}
 use mathlib.Core.List.{_∷_}
 use native.Mathlib.Nat.{lt-of-lt-of-le}
 use native.Mathlib.Omega.{arith}
-use Rattle.terms.specs.declared.Value.{Value}
-use Rattle.terms.specs.Rounds.{theRound, isNone, ownerOf}
+use Rattle.basics.specs.declared.Value.{Value}
+use Rattle.basics.specs.Rounds.{theRound, isNone, ownerOf}
 use Rattle.quorum.specs.Voters.{Mem, older}
-use Rattle.bid.specs.declared.Cell.{Cell}
-use Rattle.agreement.proofs.Basics.{extend}
+use Rattle.backup_cell.specs.declared.Cell.{Cell}
+use Rattle.agreement.proofs.Families.{extend}
 use Rattle.agreement.proofs.Slot.{Slot, Sound, Propose, Barred, BackupSound, Unopened, propose, spent}
 
 -- The slot with other backup cells.

@@ -1,35 +1,37 @@
--- When boxes stand for slots, one for every instance number: each cell inside the lent tables is its slot's, and each packet sent reads as a message that
--- its slot knows. Of the cells of slots beyond the tables nothing is said. N stands in this bridge and in the calls that keep it, and not in the slots.
+-- When boxes represent slots, one for every instance number: the cell at an instance's place in the lent tables is its slot's, and each packet sent reads as a
+-- message that its slot knows. Of slots that have no place nothing is said. N stands in this bridge and in the calls that keep it, and not in the slots.
 -- Assumes nothing.
-use Prim.Native.Nat.{ℕ, _≤_, _<_}
-use mathlib.Core.Path.{_≡_, refl, sym, _∙_, subst}
+use Prim.Native.Nat.{ℕ, _≤_}
+use mathlib.Core.Path.{_≡_, refl, sym, ap, _∙_, subst}
 use mathlib.Core.Bool.{true, false}
 use mathlib.Core.List.{List, _∷_}
 use native.Mathlib.Omega.{arith}
 use lib.ListN.{getD}
-use Rattle.terms.specs.declared.Instance.{Instance}
-use Rattle.terms.specs.declared.Place.the-variants.{At}
-use Rattle.terms.specs.declared.Round.{Round}
-use Rattle.terms.specs.declared.Value.{Value}
-use Rattle.terms.specs.Rounds.{theInstance}
-use Rattle.terms.specs.Verdict.{saysSend}
-use Rattle.terms.proofs.Places.{PlacedBy}
+use Rattle.basics.specs.declared.Instance.{Instance}
+use Rattle.basics.specs.declared.Place.the-variants.{At}
+use Rattle.basics.specs.declared.Round.{Round}
+use Rattle.basics.specs.declared.Value.{Value}
+use Rattle.basics.specs.Rounds.{theInstance}
+use Rattle.basics.specs.Verdict.{saysSend}
+use Rattle.basics.specs.Places.{placed}
+use Rattle.basics.proofs.Places.{PlacedBy, placed-once}
 use Rattle.messages.specs.declared.Message.{Message}
 use Rattle.messages.specs.declared.Message.the-variants as kind
 use Rattle.wire.specs.declared.Reading.the-variants.{Read}
 use Rattle.wire.specs.Packet.{readPacket, packetOf}
 use Rattle.wire.proofs.Laws.{Writable, RefusedBy, written-reads}
-use Rattle.player.specs.Step.{Outcome, unchanged, Player, ruled, step}
+use Rattle.basics.specs.Outcome.{Outcome, Lent}
+use Rattle.player.specs.Step.{unchanged, Player, ruled, step}
 use Rattle.player.proofs.Numbers.{reader-quiet}
 use Rattle.player.proofs.Steps.{step-elim}
 use Rattle.quorum.specs.declared.Settings.{Settings}
 use Rattle.quorum.specs.Voters.{Mem, older}
-use Rattle.acceptor.specs.Acceptor as acceptors
-use Rattle.backup.specs.Backup as backups
-use Rattle.tallies.specs.Tables as learners
+use Rattle.acceptor_tables.specs.Tables as acceptors
+use Rattle.backup_tables.specs.Tables as backups
+use Rattle.learner_tables.specs.Tables as learners
 use Rattle.agreement.specs.Run.{Caller, acceptor, Sent, sent, Boxes, put, Handed, VoteSent}
 use Rattle.agreement.specs.Run as run
-use Rattle.agreement.proofs.Basics.{extend, put-elim, put-all, put-same, put-other}
+use Rattle.agreement.proofs.Families.{extend, put-elim, put-all, put-same, put-other}
 use Rattle.agreement.proofs.Slot.{Slot, Promise, Propose, Vote, promise, propose, vote, Sound, Unopened}
 
 -- ---- packets and slots
@@ -54,16 +56,20 @@ pub record Told (packets : List Sent) (slots : ℕ → Slot) : Type 0 where
 
 -- ---- boxes and slots
 
--- The boxes stand for slots, all of them sound.
-pub record Holds (s : Settings) (w : Boxes) : Type 0 where
+-- The cells of an instance stand at this index.
+abbrev pub PlacedAt : (N i index : ℕ) → Type 0
+PlacedAt N i index = placed N (theInstance i) ≡ At index
+
+-- The boxes represent slots, all of them sound.
+pub record Represents (s : Settings) (w : Boxes) : Type 0 where
   pub slots : ℕ → Slot
-  pub acceptors : (a i : ℕ) → i < s .instances → acceptors.cellAt (w .acceptor a) i ≡ slots i .acceptor a
-  pub backups : (b i : ℕ) → i < s .instances → backups.cellAt (w .backup b) i ≡ slots i .backup b
-  pub learners : (l i : ℕ) → i < s .instances → learners.cellAt (w .learner l) i ≡ slots i .learner l
+  pub acceptors : (a i index : ℕ) → PlacedAt (s .instances) i index → acceptors.cellAt (w .acceptor a) index ≡ slots i .acceptor a
+  pub backups : (b i index : ℕ) → PlacedAt (s .instances) i index → backups.cellAt (w .backup b) index ≡ slots i .backup b
+  pub learners : (l i index : ℕ) → PlacedAt (s .instances) i index → learners.cellAt (w .learner l) index ≡ slots i .learner l
   pub told : Told (w .packets) slots
   pub sound : (i : ℕ) → Sound (s .acceptors) (slots i)
-  -- what has no cell is not voted for
-  pub inside : (i : ℕ) (x : Vote) → Mem x (slots i .votes) → i < s .instances
+  -- what has no place is not voted for
+  pub has-place : (i : ℕ) (x : Vote) → Mem x (slots i .votes) → (index : ℕ) × PlacedAt (s .instances) i index
   -- the primary's next instance and those after it have no propose of round 0
   pub unopened : (i : ℕ) → getD (w .primary) 0 0 ≤ i → Unopened (slots i)
 
@@ -74,7 +80,7 @@ pub data Met (slots : ℕ → Slot) (m : Message) : Type 0 where
   asked : (switch : ℕ) (value : Value) → m ≡ kind.Request switch value → Met slots m
   known : (by : Caller) → Knows slots by m → Met slots m
 
-pub met : {s : Settings} {w : Boxes} (h : Holds s w) {p : List ℕ} {m : Message} → Handed w p → readPacket p ≡ Read m → Met (h .slots) m
+pub met : {s : Settings} {w : Boxes} (h : Represents s w) {p : List ℕ} {m : Message} → Handed w p → readPacket p ≡ Read m → Met (h .slots) m
 met h (run.Handed.request bytes switch value asks) reads = asked switch value (cc)
 met h (run.Handed.malformed bytes unread) reads = let no-way = unread .refuses in let z : _≡_ {A = ℕ} 0 1 = cc in absurd (omega arith)
 met h {m = m} (run.Handed.copy by there) reads =
@@ -147,45 +153,54 @@ module _ {packets : List Sent} {slots : ℕ → Slot} (told : Told packets slots
 
 -- the cells of one kind of player
 module _ (N : ℕ) {Tables Cell : Type 0} (cellAt : Tables → ℕ → Cell) (cells : Slot → ℕ → Cell) (slots : ℕ → Slot) (tables : ℕ → Tables)
-    (stand : (a i : ℕ) → i < N → cellAt (tables a) i ≡ cells (slots i) a) (j : ℕ) (next : Slot) where
+    (stand : (a i index : ℕ) → PlacedAt N i index → cellAt (tables a) index ≡ cells (slots i) a) (j : ℕ) (next : Slot) where
   -- those that the call does not touch
-  pub cells-same : ((a : ℕ) → cells next a ≡ cells (slots j) a) → (a i : ℕ) → i < N → cellAt (tables a) i ≡ cells (put slots j next i) a
-  cells-same same a = put-elim (λ i x. i < N → cellAt (tables a) i ≡ cells x a) (λ below. stand a j below ∙ sym (same a)) (λ i _. stand a i)
+  pub cells-same : ((a : ℕ) → cells next a ≡ cells (slots j) a) → (a i index : ℕ) → PlacedAt N i index → cellAt (tables a) index ≡ cells (put slots j next i) a
+  cells-same same a =
+      put-elim (λ i x. (index : ℕ) → PlacedAt N i index → cellAt (tables a) index ≡ cells x a) (λ index at. stand a j index at ∙ sym (same a)) (λ i _. stand a i)
 
-  -- those of the caller's kind
-  pub cells-moved : (own : ℕ) (t : Tables) (c : Cell) → ((a : ℕ) → cells next a ≡ put (cells (slots j)) own c a) → cellAt t j ≡ c
-      → ((i : ℕ) → (j ≡ i → ⊥) → cellAt t i ≡ cellAt (tables own) i) → (a i : ℕ) → i < N → cellAt (put tables own t a) i ≡ cells (put slots j next i) a
-  cells-moved own t c is there apart =
-      put-elim (λ a u. (i : ℕ) → i < N → cellAt u i ≡ cells (put slots j next i) a)
-      (put-elim (λ i x. i < N → cellAt t i ≡ cells x own) (λ _. there ∙ sym (is own ∙ put-same (cells (slots j)) own c)) (λ i differs below. apart i differs ∙ stand own i below))
-      (λ a other. put-elim (λ i x. i < N → cellAt (tables a) i ≡ cells x a) (λ below. stand a j below ∙ sym (is a ∙ put-other (cells (slots j)) own c a other)) (λ i _. stand a i))
+  -- those of the caller's kind: its own at the instance's place, and no other, since two instances have two places
+  pub cells-moved : (own : ℕ) (t : Tables) (c : Cell) (spot : ℕ) → PlacedAt N j spot → ((a : ℕ) → cells next a ≡ put (cells (slots j)) own c a) → cellAt t spot ≡ c
+      → ((index : ℕ) → (spot ≡ index → ⊥) → cellAt t index ≡ cellAt (tables own) index)
+      → (a i index : ℕ) → PlacedAt N i index → cellAt (put tables own t a) index ≡ cells (put slots j next i) a
+  cells-moved own t c spot here is there apart =
+      put-elim (λ a u. (i index : ℕ) → PlacedAt N i index → cellAt u index ≡ cells (put slots j next i) a)
+      (put-elim (λ i x. (index : ℕ) → PlacedAt N i index → cellAt t index ≡ cells x own)
+      (λ index at. ap (cellAt t) (same-spot index at) ∙ there ∙ sym (is own ∙ put-same (cells (slots j)) own c))
+      (λ i differs index at. apart index (λ same. differs (placed-once N (theInstance j) (theInstance i) index (here ∙ ap At same) at)) ∙ stand own i index at))
+      (λ a other. put-elim (λ i x. (index : ℕ) → PlacedAt N i index → cellAt (tables a) index ≡ cells x a)
+      (λ index at. stand a j index at ∙ sym (is a ∙ put-other (cells (slots j)) own c a other)) (λ i _. stand a i))
+    where
+      same-spot : (index : ℕ) → PlacedAt N j index → index ≡ spot
+      same-spot index at = let same : index ≡ spot = cc in same
 
 -- what stays where one slot moves
-module _ {s : Settings} {w : Boxes} (h : Holds s w) (j : ℕ) (next : Slot) where
-  pub acceptors-same : ((a : ℕ) → next .acceptor a ≡ h .slots j .acceptor a) → (a i : ℕ) → i < s .instances
-      → acceptors.cellAt (w .acceptor a) i ≡ put (h .slots) j next i .acceptor a
+module _ {s : Settings} {w : Boxes} (h : Represents s w) (j : ℕ) (next : Slot) where
+  pub acceptors-same : ((a : ℕ) → next .acceptor a ≡ h .slots j .acceptor a) → (a i index : ℕ) → PlacedAt (s .instances) i index
+      → acceptors.cellAt (w .acceptor a) index ≡ put (h .slots) j next i .acceptor a
   acceptors-same = cells-same (s .instances) acceptors.cellAt (λ (x : Slot). x .acceptor) (h .slots) (w .acceptor) (h .acceptors) j next
 
-  pub backups-same : ((b : ℕ) → next .backup b ≡ h .slots j .backup b) → (b i : ℕ) → i < s .instances
-      → backups.cellAt (w .backup b) i ≡ put (h .slots) j next i .backup b
+  pub backups-same : ((b : ℕ) → next .backup b ≡ h .slots j .backup b) → (b i index : ℕ) → PlacedAt (s .instances) i index
+      → backups.cellAt (w .backup b) index ≡ put (h .slots) j next i .backup b
   backups-same = cells-same (s .instances) backups.cellAt (λ (x : Slot). x .backup) (h .slots) (w .backup) (h .backups) j next
 
-  pub learners-same : ((l : ℕ) → next .learner l ≡ h .slots j .learner l) → (l i : ℕ) → i < s .instances
-      → learners.cellAt (w .learner l) i ≡ put (h .slots) j next i .learner l
+  pub learners-same : ((l : ℕ) → next .learner l ≡ h .slots j .learner l) → (l i index : ℕ) → PlacedAt (s .instances) i index
+      → learners.cellAt (w .learner l) index ≡ put (h .slots) j next i .learner l
   learners-same = cells-same (s .instances) learners.cellAt (λ (x : Slot). x .learner) (h .slots) (w .learner) (h .learners) j next
 
   pub all-sound : Sound (s .acceptors) next → (i : ℕ) → Sound (s .acceptors) (put (h .slots) j next i)
   all-sound new = put-all (λ _ x. Sound (s .acceptors) x) new (h .sound)
 
-  pub inside-still : ((x : Vote) → Mem x (next .votes) → j < s .instances) → (i : ℕ) (x : Vote) → Mem x (put (h .slots) j next i .votes) → i < s .instances
-  inside-still new = put-all (λ i (y : Slot). (x : Vote) → Mem x (y .votes) → i < s .instances) new (h .inside)
+  pub still-placed : ((x : Vote) → Mem x (next .votes) → (index : ℕ) × PlacedAt (s .instances) j index) → (i : ℕ) (x : Vote) → Mem x (put (h .slots) j next i .votes)
+      → (index : ℕ) × PlacedAt (s .instances) i index
+  still-placed new = put-all (λ i (y : Slot). (x : Vote) → Mem x (y .votes) → (index : ℕ) × PlacedAt (s .instances) i index) new (h .has-place)
 
   pub unopened-still : (Unopened (h .slots j) → Unopened next) → (i : ℕ) → getD (w .primary) 0 0 ≤ i → Unopened (put (h .slots) j next i)
   unopened-still new = put-all (λ i x. getD (w .primary) 0 0 ≤ i → Unopened x) (λ low. new (h .unopened j low)) (h .unopened)
 
 -- ---- a step, by whether it rules
 
-module _ {Tables Cell : Type 0} (player : Player Tables Cell) (packet : List ℕ) (tables : Tables) (Q : Outcome Tables → Type 0) where
+module _ {Tables Cell : Type 0} (player : Player Tables Cell) (packet : List ℕ) (tables : Tables) (Q : Outcome (Lent Tables) → Type 0) where
   pub step-acts : ((number : ℕ) → saysSend number ≡ false → Q (unchanged packet tables number)) → ((m : Message) → PlacedBy (λ n. saysSend n ≡ false) (player .place m))
       → (player .allowed tables ≡ true → (m : Message) → readPacket packet ≡ Read m → (index : ℕ) → player .place m ≡ At index
       → Q (ruled packet tables (player .withCell tables index) (player .rule (player .cellAt tables index) m)))

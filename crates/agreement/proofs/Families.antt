@@ -6,10 +6,10 @@ use mathlib.Core.Bool.{false}
 use mathlib.Core.List.{List, [], _∷_}
 use native.Mathlib.Omega.{arith}
 use borrow.Author.Tests.{eqb-true, eqb-false, eq-eqb, ne-eqb}
-use Rattle.terms.specs.declared.Round.{Round}
-use Rattle.terms.specs.Rounds.{isNone, ownerOf}
-use Rattle.terms.proofs.Ladder.{if-elim, if-true, if-false}
-use Rattle.terms.proofs.Rounds.{owner-remainder}
+use Rattle.basics.specs.declared.Round.{Round}
+use Rattle.basics.specs.Rounds.{isNone, ownerOf}
+use Rattle.basics.proofs.Ladder.{if-elim, if-true, if-false}
+use Rattle.basics.proofs.Rounds.{owner-remainder}
 use Rattle.quorum.specs.Voters.{Mem, newest, older}
 use Rattle.agreement.specs.Run.{put}
 
