@@ -2,7 +2,7 @@
 -- Assumes nothing.
 use Prim.Native.Nat.{ℕ}
 use mathlib.Core.List.{List}
-use Rattle.acceptor.specs.Acceptor.{freshTables}
+use Rattle.acceptor_tables.specs.Tables.{freshTables}
 
 -- A fresh acceptor's vote rounds.
 abbrev pub freshVoteRounds : List ℕ

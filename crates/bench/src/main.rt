@@ -2,10 +2,10 @@
 // its own where a line is for it: each function that is handed many tables is dear to check.
 ghost use mathlib.Core.Path.{_≡_};
 ghost use Rattle.bench.specs.Bench.{freshVoteRounds};
+use basics::Value;
+use basics::Verdict;
 use libc::STDIN_FILENO;
 use libc::STDOUT_FILENO;
-use terms::Value;
-use terms::Verdict;
 
 const ACCEPTORS: u32 = 3;
 
@@ -328,23 +328,23 @@ fn print_player(command: Command) {
 }
 
 fn print_verdict(answer: u32) {
-    if answer == terms::verdict_number(Verdict::ToAcceptors) {
+    if answer == basics::verdict_number(Verdict::ToAcceptors) {
         io::write_all(STDOUT_FILENO, b" acceptors ");
         return;
     }
-    if answer == terms::verdict_number(Verdict::ToLeader) {
+    if answer == basics::verdict_number(Verdict::ToLeader) {
         io::write_all(STDOUT_FILENO, b" leader ");
         return;
     }
-    if answer == terms::verdict_number(Verdict::ToLearners) {
+    if answer == basics::verdict_number(Verdict::ToLearners) {
         io::write_all(STDOUT_FILENO, b" learners ");
         return;
     }
-    if answer == terms::verdict_number(Verdict::Hold) {
+    if answer == basics::verdict_number(Verdict::Hold) {
         io::write_all(STDOUT_FILENO, b" hold ");
         return;
     }
-    if answer == terms::verdict_number(Verdict::Decided) {
+    if answer == basics::verdict_number(Verdict::Decided) {
         io::write_all(STDOUT_FILENO, b" decided ");
         return;
     }
@@ -389,7 +389,7 @@ fn print_line(command: Command, answer: u32, packet: &[u8; 36]) {
 fn fresh_vote_rounds() -> [u32; 1024]
     ensures { λ r. ⌜ r ≡ freshVoteRounds ⌝ }
 {
-    [terms::NONE; 1024]
+    [basics::NONE; 1024]
 }
 
 fn give_to_primary(packet: &mut [u8; 36], next: &mut [u32; 1]) -> u32 {
@@ -509,10 +509,10 @@ fn main() {
     let mut backup_rounds = [[0u32; 1024]; 3];
     let mut phases = [[0u8; 1024]; 3];
     let mut promisers = [[0u8; 1024]; 3];
-    let mut best_vote_rounds = [[terms::NONE; 1024]; 3];
+    let mut best_vote_rounds = [[basics::NONE; 1024]; 3];
     let mut best_values = [[0u64; 2048]; 3];
     let mut own_values = [[0u64; 2048]; 3];
-    let mut learner_rounds = [terms::NONE; 1024];
+    let mut learner_rounds = [basics::NONE; 1024];
     let mut voters = [0u8; 1024];
     let mut learner_values = [0u64; 2048];
     io::write_all(STDOUT_FILENO, b"player verdict packet\n");

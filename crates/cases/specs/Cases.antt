@@ -6,27 +6,30 @@ use Prim.Native.Nat.{ℕ}
 use mathlib.Core.Path.{_≡_}
 use mathlib.Core.List.{List, [], _∷_}
 use lib.ListN.{replicate}
-use Rattle.terms.specs.declared.Instance.{Instance}
-use Rattle.terms.specs.declared.Value.{Value}
-use Rattle.terms.specs.declared.Verdict.{Verdict}
-use Rattle.terms.specs.declared.Verdict.the-variants.{ToAcceptors, ToLeader, ToLearners, Hold, Decided}
-use Rattle.terms.specs.Rounds.{theInstance, theRound, none}
-use Rattle.terms.specs.Values.{theValue, null}
-use Rattle.terms.specs.Verdict.{verdictNumber}
+use Rattle.basics.specs.declared.Instance.{Instance}
+use Rattle.basics.specs.declared.Value.{Value}
+use Rattle.basics.specs.declared.Verdict.{Verdict}
+use Rattle.basics.specs.declared.Verdict.the-variants.{ToAcceptors, ToLeader, ToLearners, Hold, Decided}
+use Rattle.basics.specs.Rounds.{theInstance, theRound, none}
+use Rattle.basics.specs.Values.{theValue, null}
+use Rattle.basics.specs.Verdict.{verdictNumber}
 use Rattle.messages.specs.declared.Message.{Message}
 use Rattle.messages.specs.declared.Message.the-variants.{Prepare, Promise, Propose, Vote}
 use Rattle.wire.specs.Packet.{packetOf}
-use Rattle.player.specs.Step.{Outcome, outcome, unchanged}
+use Rattle.basics.specs.Outcome.{Outcome, outcome, Lent, lent}
+use Rattle.player.specs.Step.{unchanged}
 use Rattle.quorum.specs.Settings.{settings}
-use Rattle.ballot.specs.Ballot as ballots
-use Rattle.acceptor.specs.Acceptor as acceptors
-use Rattle.bid.specs.Bid as bids
-use Rattle.backup.specs.Backup as backups
-use Rattle.tally.specs.Tally.{tally}
-use Rattle.tallies.specs.Tables as tallies
+use Rattle.acceptor_rule.specs.Rule as acceptorRule
+use Rattle.acceptor_tables.specs.Tables as acceptors
+use Rattle.acceptor.specs.Acceptor.{acceptorStep}
+use Rattle.backup_cell.specs.Cell as backupCell
+use Rattle.backup_tables.specs.Tables as backups
+use Rattle.backup.specs.Backup.{backupStep, backupStart}
+use Rattle.learner_cell.specs.Cell as learnerCell
+use Rattle.learner_tables.specs.Tables as learners
 use Rattle.learner.specs.declared.Answer.{Answer}
 use Rattle.learner.specs.declared.Answer.the-variants as answers
-use Rattle.learner.specs.Learner as learners
+use Rattle.learner.specs.Learner.{learnerStep, answerFor}
 
 abbrev v : Value
 v = theValue 0 0x2a
@@ -42,56 +45,56 @@ zeros = replicate 36 0
 
 -- A row: who is given which message with which tables, and the outcome.
 pub data Row : Type 0 where
-  acceptor : acceptors.Tables → Message → Outcome acceptors.Tables → Row
-  start : (own : ℕ) → backups.Tables → (floor : ℕ) → Value → Outcome backups.Tables → Row
-  backup : backups.Tables → Message → Outcome backups.Tables → Row
-  learner : (M : ℕ) → tallies.Tables → Message → Outcome tallies.Tables → Row
-  answer : (M : ℕ) → tallies.Tables → Answer → Row
+  acceptor : acceptors.Tables → Message → Outcome (Lent acceptors.Tables) → Row
+  start : (own : ℕ) → backups.Tables → (floor : ℕ) → Value → Outcome (Lent backups.Tables) → Row
+  backup : backups.Tables → Message → Outcome (Lent backups.Tables) → Row
+  learner : (M : ℕ) → learners.Tables → Message → Outcome (Lent learners.Tables) → Row
+  answer : (M : ℕ) → learners.Tables → Answer → Row
 
 -- The outcome is the one that the definitions give.
 abbrev pub Holds : Row → Type 0
-Holds (acceptor t m o) = acceptors.acceptorStep (settings 3 8) 0 (packetOf m) t ≡ o
-Holds (start own t floor value o) = backups.backupStart (settings 3 8) own first floor value zeros t ≡ o
-Holds (backup t m o) = backups.backupStep (settings 3 8) 1 (packetOf m) t ≡ o
-Holds (learner M t m o) = learners.learnerStep (settings M 8) (packetOf m) t ≡ o
-Holds (answer M t a) = learners.answer (settings M 8) first t ≡ a
+Holds (acceptor t m o) = acceptorStep (settings 3 8) 0 (packetOf m) t ≡ o
+Holds (start own t floor value o) = backupStart (settings 3 8) own first floor value zeros t ≡ o
+Holds (backup t m o) = backupStep (settings 3 8) 1 (packetOf m) t ≡ o
+Holds (learner M t m o) = learnerStep (settings M 8) (packetOf m) t ≡ o
+Holds (answer M t a) = answerFor (settings M 8) first t ≡ a
 
 abbrev pub All : List Row → Type 0
 All [] = Unit {0}
 All (row ∷ rows) = Holds row × All rows
 
 -- The outcome that sends a message, and the one that refuses one.
-abbrev sent : {Tables : Type 0} → Verdict → Message → Tables → Outcome Tables
-sent verdict m t = outcome (verdictNumber verdict) (packetOf m) t
+abbrev sent : {Tables : Type 0} → Verdict → Message → Tables → Outcome (Lent Tables)
+sent verdict m t = outcome (verdictNumber verdict) (lent (packetOf m) t)
 
-abbrev refused : {Tables : Type 0} → Message → Tables → (number : ℕ) → Outcome Tables
+abbrev refused : {Tables : Type 0} → Message → Tables → (number : ℕ) → Outcome (Lent Tables)
 refused m t number = unchanged (packetOf m) t number
 
-abbrev held : {Tables : Type 0} → Message → Tables → Outcome Tables
-held m t = outcome (verdictNumber Hold) (packetOf m) t
+abbrev held : {Tables : Type 0} → Message → Tables → Outcome (Lent Tables)
+held m t = outcome (verdictNumber Hold) (lent (packetOf m) t)
 
 -- The acceptor's tables, fresh but for the cell of instance 0.
 abbrev fresh : acceptors.Tables
 fresh = acceptors.freshTables 8
 
 abbrev voted : acceptors.Tables
-voted = acceptors.withCell fresh 0 (ballots.cell (theRound 0) (theRound 0) v)
+voted = acceptors.withCell fresh 0 (acceptorRule.cell (theRound 0) (theRound 0) v)
 
 abbrev promised : acceptors.Tables
-promised = acceptors.withCell fresh 0 (ballots.cell (theRound 1) (theRound 0) v)
+promised = acceptors.withCell fresh 0 (acceptorRule.cell (theRound 1) (theRound 0) v)
 
 abbrev asked : acceptors.Tables
-asked = acceptors.withCell fresh 0 (ballots.cell (theRound 1) none null)
+asked = acceptors.withCell fresh 0 (acceptorRule.cell (theRound 1) none null)
 
 -- The backup's tables, fresh but for the cell of instance 0.
 abbrev idle : backups.Tables
 idle = backups.freshTables 8
 
 abbrev asking : (round : ℕ) → Value → (set : ℕ) → backups.Tables
-asking round value set = backups.withCell idle 0 (bids.cell (theRound round) bids.asking set none null value)
+asking round value set = backups.withCell idle 0 (backupCell.cell (theRound round) backupCell.asking set none null value)
 
 abbrev proposed : backups.Tables
-proposed = backups.withCell idle 0 (bids.cell (theRound 1) bids.proposed 3 (theRound 0) v w)
+proposed = backups.withCell idle 0 (backupCell.cell (theRound 1) backupCell.proposed 3 (theRound 0) v w)
 
 -- A start that writes a prepare of this round, and one that is refused.
 abbrev starts : (own : ℕ) → backups.Tables → (floor round : ℕ) → Row
@@ -101,11 +104,11 @@ abbrev refuses : (own : ℕ) → backups.Tables → (floor : ℕ) → Row
 refuses own t floor = start own t floor v (unchanged zeros t 16)
 
 -- The learner's tables, fresh but for the cell of instance 0.
-abbrev unheard : tallies.Tables
-unheard = tallies.freshTables 8
+abbrev unheard : learners.Tables
+unheard = learners.freshTables 8
 
-abbrev heard : (round set : ℕ) → tallies.Tables
-heard round set = tallies.withCell unheard 0 (tally (theRound round) set v)
+abbrev heard : (round set : ℕ) → learners.Tables
+heard round set = learners.withCell unheard 0 (learnerCell.cell (theRound round) set v)
 
 -- A vote for v, in a round, from an acceptor.
 abbrev vote : (round sender : ℕ) → Message
@@ -147,6 +150,6 @@ cases =
     -- M = 5: two equal votes hold, the third decides.
     ∷ learner 5 unheard (vote 0 0) (held (vote 0 0) (heard 0 1))
     ∷ learner 5 (heard 0 1) (vote 0 1) (held (vote 0 1) (heard 0 3))
-    ∷ learner 5 (heard 0 3) (vote 0 2) (outcome (verdictNumber Decided) (packetOf (vote 0 2)) (heard 0 7))
+    ∷ learner 5 (heard 0 3) (vote 0 2) (outcome (verdictNumber Decided) (lent (packetOf (vote 0 2)) (heard 0 7)))
     ∷ answer 5 (heard 0 7) (answers.Decided v)
     ∷ []

@@ -1,9 +1,9 @@
 // Runs the cases of the paper that are not starred, M = 3, N = 8 unless said, and prints each with its answer. The starred ones are proved, in proofs/.
+use basics::Instance;
+use basics::Round;
+use basics::Value;
 use libc::STDOUT_FILENO;
 use messages::Message;
-use terms::Instance;
-use terms::Round;
-use terms::Value;
 
 fn main() {
     print(b"instance 7: ", propose_to_acceptor(7));
@@ -30,7 +30,7 @@ fn propose(instance: u32) -> Message {
 
 fn give_to_fresh_acceptor(packet: &mut [u8]) -> u32 {
     let mut rounds = [0u32; 8];
-    let mut vote_rounds = [terms::NONE; 8];
+    let mut vote_rounds = [basics::NONE; 8];
     let mut values = [0u64; 16];
     acceptor::myrthakel_acceptor_step(3, 8, 0, packet, &mut rounds, &mut vote_rounds, &mut values)
 }

@@ -12,23 +12,30 @@ use contract.Lifetimes.{Lfts}
 use contract.Monad.{Fun, fact}
 use denote.Triple.Clauses.{AtExit}
 use denote.Triple.Entry.{Args, Res}
+use Prim.Native.Nat.{ℕ}
+use mathlib.Core.List.{List}
 use lib.Dec.{eqb}
-use Rattle.terms.specs.Ladder.{if_then_else_}
-use Rattle.terms.specs.Verdict.{verdictNumber}
+use Rattle.basics.specs.Ladder.{if_then_else_}
+use Rattle.basics.specs.Verdict.{verdictNumber}
 use Rattle.player.specs.Step.{Ruling, refused, sends, counts}
+use Rattle.primary_rule.specs.declared.Cell as primaryCells
+use Rattle.primary_rule.specs.declared.Ruled as primaryAnswers
+use Rattle.primary_rule.specs.declared.Ruled.the-variants as primaries
+use Rattle.primary_rule.specs.Rule as primaryRule
 use Rattle.primary.proofs.myrthakel_primary_request as primary-request
-use Rattle.ballot.specs.declared.Cell as ballotCells
-use Rattle.ballot.specs.declared.Ruled as obeying
-use Rattle.ballot.specs.declared.Ruled.the-variants as obeyed
-use Rattle.ballot.specs.Ballot as ballot
-use Rattle.bid.specs.declared.Cell.{Cell}
-use Rattle.takeover.specs.declared.Ruled.{Ruled}
-use Rattle.takeover.specs.declared.Ruled.the-variants as ruled
-use Rattle.takeover.specs.Takeover as takeover
-use Rattle.tally.specs.declared.Counted.{Counted}
-use Rattle.tally.specs.declared.Counted.the-variants as counted
-use Rattle.tally.specs.declared.Tally.{Tally}
-use Rattle.tally.specs.Counting as tally
+use Rattle.acceptor_rule.specs.declared.Cell as acceptorCells
+use Rattle.acceptor_rule.specs.declared.Ruled as acceptorAnswers
+use Rattle.acceptor_rule.specs.declared.Ruled.the-variants as acceptors
+use Rattle.acceptor_rule.specs.Rule as acceptorRule
+use Rattle.backup_cell.specs.declared.Cell as backupCells
+use Rattle.backup_rule.specs.declared.Ruled as backupAnswers
+use Rattle.backup_rule.specs.declared.Ruled.the-variants as backups
+use Rattle.backup_rule.specs.Rule as backupRule
+use Rattle.backup_tables.specs.Tables.{Tables}
+use Rattle.learner_cell.specs.declared.Cell as learnerCells
+use Rattle.learner_rule.specs.declared.Ruled as learnerAnswers
+use Rattle.learner_rule.specs.declared.Ruled.the-variants as learners
+use Rattle.learner_rule.specs.Rule as learnerRule
 use Rattle.tightness.specs.Tightness.{requested, EveryCall}
 
 equal : {A : Type 0} {one other same : A} → one ≡ same → other ≡ same → one ≡ other
@@ -44,38 +51,52 @@ told : {Answer Said : Type 0} (rulingOf : Answer → Said) (back : Said → Answ
 told rulingOf back gives-back one other p q = sym (gives-back one) ∙ seen back p q ∙ gives-back other
 
 -- the answers that have the rulings
-ruledBy : Ruling Cell → Ruled
-ruledBy (refused number) = ruled.Refused number
-ruledBy (sends verdict message cell) = ruled.Sent cell message
-ruledBy (counts verdict cell) = ruled.Held cell
+requestRuled : Ruling primaryCells.Cell → primaryAnswers.Ruled
+requestRuled (refused number) = primaries.Refused number
+requestRuled (sends verdict message cell) = primaries.Sent cell message
+requestRuled (counts verdict cell) = primaries.Refused 0
 
-ruled-back : (answer : Ruled) → ruledBy (takeover.rulingOf answer) ≡ answer
-unfolding ruledBy
-ruled-back (ruled.Sent cell message) = refl
-ruled-back (ruled.Held cell) = refl
-ruled-back (ruled.Refused number) = refl
+request-ruled : (answer : primaryAnswers.Ruled) → requestRuled (primaryRule.rulingOf answer) ≡ answer
+unfolding requestRuled
+request-ruled (primaries.Sent cell message) = refl
+request-ruled (primaries.Refused number) = refl
 
-obeyedBy : Ruling ballotCells.Cell → obeying.Ruled
-obeyedBy (refused number) = obeyed.Refused number
-obeyedBy (sends verdict message cell) = if eqb (verdictNumber verdict) 102 then obeyed.Promised cell message else obeyed.Voted cell message
-obeyedBy (counts verdict cell) = obeyed.Refused 0
+orderRuled : Ruling acceptorCells.Cell → acceptorAnswers.Ruled
+orderRuled (refused number) = acceptors.Refused number
+orderRuled (sends verdict message cell) = if eqb (verdictNumber verdict) 102 then acceptors.Promised cell message else acceptors.Voted cell message
+orderRuled (counts verdict cell) = acceptors.Refused 0
 
-obeyed-back : (answer : obeying.Ruled) → obeyedBy (ballot.rulingOf answer) ≡ answer
-unfolding obeyedBy if_then_else_
-obeyed-back (obeyed.Promised cell message) = refl
-obeyed-back (obeyed.Voted cell message) = refl
-obeyed-back (obeyed.Refused number) = refl
+order-ruled : (answer : acceptorAnswers.Ruled) → orderRuled (acceptorRule.rulingOf answer) ≡ answer
+unfolding orderRuled if_then_else_
+order-ruled (acceptors.Promised cell message) = refl
+order-ruled (acceptors.Voted cell message) = refl
+order-ruled (acceptors.Refused number) = refl
 
-countedBy : Ruling Tally → Counted
-countedBy (refused number) = counted.Refused number
-countedBy (sends verdict message cell) = counted.Held cell
-countedBy (counts verdict cell) = if eqb (verdictNumber verdict) 104 then counted.Held cell else counted.Reached cell
+promiseRuled : Ruling backupCells.Cell → backupAnswers.Ruled
+promiseRuled (refused number) = backups.Refused number
+promiseRuled (sends verdict message cell) = backups.Sent cell message
+promiseRuled (counts verdict cell) = backups.Held cell
 
-counted-back : (answer : Counted) → countedBy (tally.rulingOf answer) ≡ answer
-unfolding countedBy if_then_else_
-counted-back (counted.Held cell) = refl
-counted-back (counted.Reached cell) = refl
-counted-back (counted.Refused number) = refl
+promise-ruled : (answer : backupAnswers.Ruled) → promiseRuled (backupRule.rulingOf answer) ≡ answer
+unfolding promiseRuled
+promise-ruled (backups.Sent cell message) = refl
+promise-ruled (backups.Held cell) = refl
+promise-ruled (backups.Refused number) = refl
+
+voteRuled : Ruling learnerCells.Cell → learnerAnswers.Ruled
+voteRuled (refused number) = learners.Refused number
+voteRuled (sends verdict message cell) = learners.Held cell
+voteRuled (counts verdict cell) = if eqb (verdictNumber verdict) 104 then learners.Held cell else learners.Decided cell
+
+vote-ruled : (answer : learnerAnswers.Ruled) → voteRuled (learnerRule.rulingOf answer) ≡ answer
+unfolding voteRuled if_then_else_
+vote-ruled (learners.Held cell) = refl
+vote-ruled (learners.Decided cell) = refl
+vote-ruled (learners.Refused number) = refl
+
+-- a backup's six columns
+abbrev backupColumns : Tables → List ℕ × List ℕ × List ℕ × List ℕ × List ℕ × List ℕ
+backupColumns t = (t .rounds, t .phases, t .sets, t .bestVoteRounds, t .bestValues, t .ownValues)
 
 -- the contract of the call on a record lent by reference states the fact that is shown tight
 pub requested-stated : {M : Type 1} (𝓤 : URA M) (H : Heap 𝓤) (A : Atoms 𝓤) (mem : Memory → SProp 𝓤) (run : Routine → Fun 𝓤)
@@ -99,7 +120,7 @@ every-call = record {
   of-same-round = λ _ _ _ _ _ _. equal;
   of-is-null = λ _ _ _ _ _ _. equal;
   of-same-value = λ _ _ _ _ _ _. equal;
-  of-is-vote-by = λ _ _ _ _ _ _. equal;
+  of-is-vote-up-to = λ _ _ _ _ _ _. equal;
   of-place-of = λ _ _ _ _ _ _. equal;
   of-nowhere = λ _ _ _ _ _ _. equal;
   of-verdict-number = λ _ _ _ _ _ _. equal;
@@ -109,7 +130,7 @@ every-call = record {
   of-read-packet = λ _ _ _ _ _ _. equal;
   of-refusal = λ _ _ _ _ _ _. equal;
   of-put-message = λ _ _ _ _ _ _. equal;
-  of-write-packet = (λ _ _ _ _ _ _. seen (λ w. w .answer), λ _ _ _ _ _ _. seen (λ w. w .packet));
+  of-write-packet = (λ _ _ _ _ _ _. seen (λ o. o .answer), λ _ _ _ _ _ _. seen (λ o. o .left));
   of-settings-allowed = λ _ _ _ _ _ _. equal;
   of-majority = λ _ _ _ _ _ _. equal;
   of-has-member = λ _ _ _ _ _ _. equal;
@@ -118,36 +139,57 @@ every-call = record {
   of-is-within = λ _ _ _ _ _ _. equal;
   of-reaches = λ _ _ _ _ _ _. equal;
   of-reaches-majority = λ _ _ _ _ _ _. equal;
-  of-fresh-primary = λ _ _ _ _ _ _. equal;
-  of-primary-by-value = (λ _ _ _ _ _ _. seen (λ o. record { primary = o .tables; answer = o .verdict }), λ _ _ _ _ _ _. seen (λ o. o .packet));
-  of-primary-step = (λ _ _ _ _ _ _. seen (λ o. o .verdict), λ _ _ _ _ _ _. seen (λ o. (o .packet, o .tables)));
-  of-primary-request = (λ _ _ _ _ _ _. seen (λ o. o .verdict), λ _ _ _ _ _ _. seen (λ o. (o .packet, o .tables)));
-  of-fresh-ballot-cell = λ _ _ _ _ _ _. equal;
-  of-possible-ballot-cell = λ _ _ _ _ _ _. equal;
-  of-ballot-place-of = λ _ _ _ _ _ _. equal;
-  of-obey = λ _ _ answer other _ _. told ballot.rulingOf obeyedBy obeyed-back answer other;
-  of-acceptor-step = (λ _ _ _ _ _ _. seen (λ o. o .verdict), λ _ _ _ _ _ _. seen (λ o. (o .packet, o .tables .rounds, o .tables .voteRounds, o .tables .values)));
-  of-fresh-bid-cell = λ _ _ _ _ _ _. equal;
-  of-own-allowed = λ _ _ _ _ _ _. equal;
-  of-possible-bid-cell = λ _ _ _ _ _ _. equal;
-  of-start-cell = λ _ _ answer other _ _. told takeover.rulingOf ruledBy ruled-back answer other;
-  of-take-promise = λ _ _ answer other _ _. told takeover.rulingOf ruledBy ruled-back answer other;
-  of-backup-start = (λ _ _ _ _ _ _. seen (λ o. o .verdict), λ _ _ _ _ _ _. seen (λ o. (o .packet, o .tables .rounds, o .tables .phases, o .tables .sets, o .tables .bestVoteRounds, o .tables .bestValues, o .tables .ownValues)));
-  of-backup-step = (λ _ _ _ _ _ _. seen (λ o. o .verdict), λ _ _ _ _ _ _. seen (λ o. (o .packet, o .tables .rounds, o .tables .phases, o .tables .sets, o .tables .bestVoteRounds, o .tables .bestValues, o .tables .ownValues)));
-  of-fresh-tally = λ _ _ _ _ _ _. equal;
+  of-column-round-at = λ _ _ _ _ _ _. equal;
+  of-column-put-round = λ _ _ _ _ _ _. equal;
+  of-column-byte-at = λ _ _ _ _ _ _. equal;
+  of-column-put-byte = λ _ _ _ _ _ _. equal;
+  of-column-value-at = λ _ _ _ _ _ _. equal;
+  of-column-put-value = λ _ _ _ _ _ _. equal;
+  of-primary-fresh-cell = λ _ _ _ _ _ _. equal;
+  of-primary-is-possible = λ _ _ _ _ _ _. equal;
+  of-take-request = λ _ _ answer other _ _. told primaryRule.rulingOf requestRuled request-ruled answer other;
+  of-primary-is-allowed = λ _ _ _ _ _ _. equal;
+  of-primary-step = (λ _ _ _ _ _ _. seen (λ o. o .answer), λ _ _ _ _ _ _. seen (λ o. (o .left .packet, o .left .tables)));
+  of-primary-request = (λ _ _ _ _ _ _. seen (λ o. o .answer), λ _ _ _ _ _ _. seen (λ o. (o .left .packet, o .left .tables)));
+  of-acceptor-fresh-cell = λ _ _ _ _ _ _. equal;
+  of-acceptor-is-possible = λ _ _ _ _ _ _. equal;
+  of-order-of = λ _ _ _ _ _ _. equal;
+  of-obey = λ _ _ answer other _ _. told acceptorRule.rulingOf orderRuled order-ruled answer other;
+  of-acceptor-is-allowed = λ _ _ _ _ _ _. equal;
+  of-acceptor-step = (λ _ _ _ _ _ _. seen (λ o. o .answer), λ _ _ _ _ _ _. seen (λ o. (o .left .packet, o .left .tables .rounds, o .left .tables .voteRounds, o .left .tables .values)));
+  of-backup-fresh-cell = λ _ _ _ _ _ _. equal;
+  of-backup-is-possible = λ _ _ _ _ _ _. equal;
+  of-start = λ _ _ answer other _ _. told backupRule.rulingOf promiseRuled promise-ruled answer other;
+  of-take-promise = λ _ _ answer other _ _. told backupRule.rulingOf promiseRuled promise-ruled answer other;
+  of-backup-is-allowed = λ _ _ _ _ _ _. equal;
+  of-backup-cell-at = λ _ _ _ _ _ _. equal;
+  of-backup-store-cell = λ _ _ _ _ _ _. seen (λ t. backupColumns t);
+  of-backup-start = (λ _ _ _ _ _ _. seen (λ o. o .answer), λ _ _ _ _ _ _. seen (λ o. (o .left .packet, backupColumns (o .left .tables))));
+  of-backup-step = (λ _ _ _ _ _ _. seen (λ o. o .answer), λ _ _ _ _ _ _. seen (λ o. (o .left .packet, backupColumns (o .left .tables))));
+  of-learner-fresh-cell = λ _ _ _ _ _ _. equal;
   of-is-decided = λ _ _ _ _ _ _. equal;
-  of-possible-tally-cell = λ _ _ _ _ _ _. equal;
-  of-count-vote = λ _ _ answer other _ _. told tally.rulingOf countedBy counted-back answer other;
-  of-sizes-allowed = λ _ _ _ _ _ _. equal;
-  of-cell-at = λ _ _ _ _ _ _. equal;
-  of-store-cell = λ _ _ _ _ _ _. seen (λ t. (t .rounds, t .sets, t .values));
+  of-value-of = λ _ _ _ _ _ _. equal;
+  of-learner-is-possible = λ _ _ _ _ _ _. equal;
+  of-with-voter = λ _ _ _ _ _ _. equal;
+  of-count-vote = λ _ _ answer other _ _. told learnerRule.rulingOf voteRuled vote-ruled answer other;
+  of-learner-is-allowed = λ _ _ _ _ _ _. equal;
+  of-learner-cell-at = λ _ _ _ _ _ _. equal;
+  of-learner-store-cell = λ _ _ _ _ _ _. seen (λ t. (t .rounds, t .sets, t .values));
   of-all-possible = λ _ _ _ _ _ _. equal;
-  of-learner-step = (λ _ _ _ _ _ _. seen (λ o. o .verdict), λ _ _ _ _ _ _. seen (λ o. (o .tables .rounds, o .tables .sets, o .tables .values)));
+  of-learner-step = (λ _ _ _ _ _ _. seen (λ o. o .answer), λ _ _ _ _ _ _. seen (λ o. (o .left .tables .rounds, o .left .tables .sets, o .left .tables .values)));
   of-answer-for = λ _ _ _ _ _ _. equal;
-  of-learner-answer = (λ _ _ _ _ _ _. seen (λ s. s .number), λ _ _ _ _ _ _. seen (λ s. (s .value .high, s .value .low)));
-  of-learner-deliver = (λ _ _ _ _ _ _. seen (λ o. o .verdict), λ _ _ _ _ _ _. seen (λ o. (o .packet, o .tables)));
+  of-learner-answer = (λ _ _ _ _ _ _. seen (λ o. o .answer), λ _ _ _ _ _ _. seen (λ o. (o .left .high, o .left .low)));
+  of-learner-deliver = (λ _ _ _ _ _ _. seen (λ o. o .answer), λ _ _ _ _ _ _. seen (λ o. (o .left .packet, o .left .tables)));
   of-find-hole = λ _ _ _ _ _ _. equal;
-  of-learner-first-hole = (λ _ _ _ _ _ _. seen (λ f. f .number), λ _ _ _ _ _ _. seen (λ f. f .instance));
-  of-learner-save = (λ _ _ _ _ _ _. seen (λ o. o .verdict), λ _ _ _ _ _ _. seen (λ o. o .packet));
-  of-learner-read-saved = (λ _ _ _ _ _ _. seen (λ o. o .verdict), λ _ _ _ _ _ _. seen (λ o. (o .tables .rounds, o .tables .sets, o .tables .values)));
+  of-learner-first-hole = (λ _ _ _ _ _ _. seen (λ o. o .answer), λ _ _ _ _ _ _. seen (λ o. o .left));
+  of-saved-length = λ _ _ _ _ _ _. equal;
+  of-put-header = λ _ _ _ _ _ _. equal;
+  of-is-marked = λ _ _ _ _ _ _. equal;
+  of-version-in = λ _ _ _ _ _ _. equal;
+  of-same-settings = λ _ _ _ _ _ _. equal;
+  of-put-cells = λ _ _ _ _ _ _. equal;
+  of-saved-possible = λ _ _ _ _ _ _. equal;
+  of-store-saved = λ _ _ _ _ _ _. seen (λ t. (t .rounds, t .sets, t .values));
+  of-learner-save = (λ _ _ _ _ _ _. seen (λ o. o .answer), λ _ _ _ _ _ _. seen (λ o. o .left .packet));
+  of-learner-read-saved = (λ _ _ _ _ _ _. seen (λ o. o .answer), λ _ _ _ _ _ _. seen (λ o. (o .left .tables .rounds, o .left .tables .sets, o .left .tables .values)));
 }

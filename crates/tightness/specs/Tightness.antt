@@ -6,24 +6,30 @@ use contract.Lifetimes.{Lfts}
 use denote.Ref.{RefT, now}
 use denote.Triple.Clauses.{AtExit}
 use denote.Triple.Entry.{Args, Res}
+use Rattle.basics.specs.Outcome.{outcome, lent}
+use Rattle.quorum.specs.Settings.{settings}
+use Rattle.primary.specs.Primary.{primaryRequest}
+use Rattle.basics.specs.Outcome.{outcome, lent}
+use Rattle.quorum.specs.Settings.{settings}
+use Rattle.primary.specs.Primary.{primaryRequest}
 use Rattle.numbers.proofs.read_u16.Reads as read-u16
 use Rattle.numbers.proofs.read_u32.Reads as read-u32
 use Rattle.numbers.proofs.read_u64.Reads as read-u64
 use Rattle.numbers.proofs.write_u16.Reads as write-u16
 use Rattle.numbers.proofs.write_u32.Reads as write-u32
 use Rattle.numbers.proofs.write_u64.Reads as write-u64
-use Rattle.terms.proofs.is_none.Reads as is-none
-use Rattle.terms.proofs.owner.Reads as owner
-use Rattle.terms.proofs.owned_or_0.Reads as owned-or-0
-use Rattle.terms.proofs.owned_not_0.Reads as owned-not-0
-use Rattle.terms.proofs.at_most.Reads as at-most
-use Rattle.terms.proofs.same_round.Reads as same-round
-use Rattle.terms.proofs.is_null.Reads as is-null
-use Rattle.terms.proofs.same_value.Reads as same-value
-use Rattle.terms.proofs.is_vote_by.Reads as is-vote-by
-use Rattle.terms.proofs.place_of.Reads as place-of
-use Rattle.terms.proofs.nowhere.Reads as nowhere
-use Rattle.terms.proofs.verdict_number.Reads as verdict-number
+use Rattle.basics.proofs.is_none.Reads as is-none
+use Rattle.basics.proofs.owner.Reads as owner
+use Rattle.basics.proofs.owned_or_0.Reads as owned-or-0
+use Rattle.basics.proofs.owned_not_0.Reads as owned-not-0
+use Rattle.basics.proofs.at_most.Reads as at-most
+use Rattle.basics.proofs.same_round.Reads as same-round
+use Rattle.basics.proofs.is_null.Reads as is-null
+use Rattle.basics.proofs.same_value.Reads as same-value
+use Rattle.basics.proofs.is_vote_up_to.Reads as is-vote-up-to
+use Rattle.basics.proofs.place_of.Reads as place-of
+use Rattle.basics.proofs.nowhere.Reads as nowhere
+use Rattle.basics.proofs.verdict_number.Reads as verdict-number
 use Rattle.messages.proofs.keeps_table.Reads as keeps-table
 use Rattle.messages.proofs.message_of.Reads as message-of
 use Rattle.messages.proofs.fields_of.Reads as fields-of
@@ -31,8 +37,6 @@ use Rattle.wire.proofs.read_packet.Reads as read-packet
 use Rattle.wire.proofs.refusal.Reads as refusal
 use Rattle.wire.proofs.put_message.Reads as put-message
 use Rattle.wire.proofs.write_packet.Reads as write-packet
-use Rattle.player.specs.Step.{outcome}
-use Rattle.quorum.specs.Settings.{settings}
 use Rattle.quorum.proofs.settings_allowed.Reads as settings-allowed
 use Rattle.quorum.proofs.majority.Reads as majority
 use Rattle.quorum.proofs.has_member.Reads as has-member
@@ -41,39 +45,59 @@ use Rattle.quorum.proofs.size.Reads as size
 use Rattle.quorum.proofs.is_within.Reads as is-within
 use Rattle.quorum.proofs.reaches.Reads as reaches
 use Rattle.quorum.proofs.reaches_majority.Reads as reaches-majority
-use Rattle.sequence.specs.Sequence.{primaryStep}
-use Rattle.sequence.proofs.fresh_primary.Reads as fresh-primary
-use Rattle.sequence.proofs.step.Reads as primary-by-value
+use Rattle.columns.proofs.round_at.Reads as column-round-at
+use Rattle.columns.proofs.put_round.Reads as column-put-round
+use Rattle.columns.proofs.byte_at.Reads as column-byte-at
+use Rattle.columns.proofs.put_byte.Reads as column-put-byte
+use Rattle.columns.proofs.value_at.Reads as column-value-at
+use Rattle.columns.proofs.put_value.Reads as column-put-value
+use Rattle.primary_rule.proofs.fresh_cell.Reads as primary-fresh-cell
+use Rattle.primary_rule.proofs.is_possible.Reads as primary-is-possible
+use Rattle.primary_rule.proofs.take_request.Reads as take-request
+use Rattle.primary.proofs.is_allowed.Reads as primary-is-allowed
 use Rattle.primary.proofs.myrthakel_primary_step.Reads as primary-step
 use Rattle.primary.proofs.myrthakel_primary_request as primary-request
-use Rattle.ballot.proofs.fresh_cell.Reads as fresh-ballot-cell
-use Rattle.ballot.proofs.is_possible.Reads as possible-ballot-cell
-use Rattle.ballot.proofs.place_of.Reads as ballot-place-of
-use Rattle.ballot.proofs.obey.Reads as obey
+use Rattle.acceptor_rule.proofs.fresh_cell.Reads as acceptor-fresh-cell
+use Rattle.acceptor_rule.proofs.is_possible.Reads as acceptor-is-possible
+use Rattle.acceptor_rule.proofs.order_of.Reads as order-of
+use Rattle.acceptor_rule.proofs.obey.Reads as obey
+use Rattle.acceptor_tables.proofs.is_allowed.Reads as acceptor-is-allowed
 use Rattle.acceptor.proofs.myrthakel_acceptor_step.Reads as acceptor-step
-use Rattle.bid.proofs.fresh_cell.Reads as fresh-bid-cell
-use Rattle.bid.proofs.own_allowed.Reads as own-allowed
-use Rattle.bid.proofs.is_possible.Reads as possible-bid-cell
-use Rattle.takeover.proofs.start_cell.Reads as start-cell
-use Rattle.takeover.proofs.take_promise.Reads as take-promise
+use Rattle.backup_cell.proofs.fresh_cell.Reads as backup-fresh-cell
+use Rattle.backup_cell.proofs.is_possible.Reads as backup-is-possible
+use Rattle.backup_rule.proofs.start.Reads as start
+use Rattle.backup_rule.proofs.take_promise.Reads as take-promise
+use Rattle.backup_tables.proofs.is_allowed.Reads as backup-is-allowed
+use Rattle.backup_tables.proofs.cell_at.Reads as backup-cell-at
+use Rattle.backup_tables.proofs.store_cell.Reads as backup-store-cell
 use Rattle.backup.proofs.myrthakel_backup_start.Reads as backup-start
 use Rattle.backup.proofs.myrthakel_backup_step.Reads as backup-step
-use Rattle.tally.proofs.fresh_tally.Reads as fresh-tally
-use Rattle.tally.proofs.is_decided.Reads as is-decided
-use Rattle.tally.proofs.is_possible.Reads as possible-tally-cell
-use Rattle.tally.proofs.count_vote.Reads as count-vote
-use Rattle.tallies.proofs.sizes_allowed.Reads as sizes-allowed
-use Rattle.tallies.proofs.cell_at.Reads as cell-at
-use Rattle.tallies.proofs.store_cell.Reads as store-cell
-use Rattle.tallies.proofs.all_possible.Reads as all-possible
+use Rattle.learner_cell.proofs.fresh_cell.Reads as learner-fresh-cell
+use Rattle.learner_cell.proofs.is_decided.Reads as is-decided
+use Rattle.learner_cell.proofs.value_of.Reads as value-of
+use Rattle.learner_cell.proofs.is_possible.Reads as learner-is-possible
+use Rattle.learner_cell.proofs.with_voter.Reads as with-voter
+use Rattle.learner_rule.proofs.count_vote.Reads as count-vote
+use Rattle.learner_tables.proofs.is_allowed.Reads as learner-is-allowed
+use Rattle.learner_tables.proofs.cell_at.Reads as learner-cell-at
+use Rattle.learner_tables.proofs.store_cell.Reads as learner-store-cell
+use Rattle.learner_tables.proofs.all_possible.Reads as all-possible
 use Rattle.learner.proofs.myrthakel_learner_step.Reads as learner-step
 use Rattle.learner.proofs.answer_for.Reads as answer-for
 use Rattle.learner.proofs.myrthakel_learner_answer.Reads as learner-answer
-use Rattle.delivery.proofs.myrthakel_learner_deliver.Reads as learner-deliver
-use Rattle.holes.proofs.find_hole.Reads as find-hole
-use Rattle.holes.proofs.myrthakel_learner_first_hole.Reads as learner-first-hole
-use Rattle.saved.proofs.myrthakel_learner_save.Reads as learner-save
-use Rattle.saved.proofs.myrthakel_learner_read_saved.Reads as learner-read-saved
+use Rattle.learner_delivery.proofs.myrthakel_learner_deliver.Reads as learner-deliver
+use Rattle.learner_holes.proofs.find_hole.Reads as find-hole
+use Rattle.learner_holes.proofs.myrthakel_learner_first_hole.Reads as learner-first-hole
+use Rattle.learner_file.proofs.saved_length.Reads as saved-length
+use Rattle.learner_file.proofs.put_header.Reads as put-header
+use Rattle.learner_file.proofs.is_marked.Reads as is-marked
+use Rattle.learner_file.proofs.version_in.Reads as version-in
+use Rattle.learner_file.proofs.same_settings.Reads as same-settings
+use Rattle.learner_file.proofs.put_cells.Reads as put-cells
+use Rattle.learner_file.proofs.saved_possible.Reads as saved-possible
+use Rattle.learner_file.proofs.store_saved.Reads as store-saved
+use Rattle.learner_saved.proofs.myrthakel_learner_save.Reads as learner-save
+use Rattle.learner_saved.proofs.myrthakel_learner_read_saved.Reads as learner-read-saved
 
 -- Two outcomes on the same arguments that both keep the promise, each an answer and the parameters at exit, have the same answer
 abbrev pub OneAnswer : {Lifetimes : Type 0} {Entry Answer Exit : Lifetimes → Type 0} → (promise : (κs : Lifetimes) → Entry κs → Answer κs → Exit κs → Type 0) → Type 0
@@ -101,13 +125,17 @@ held-3 lent = (now (lent .0), now (lent .1 .0), now (lent .1 .1 .0))
 abbrev pub held-4 : {A B C D Rest : Type 0} → RefT A × (RefT B × (RefT C × (RefT D × Rest))) → A × B × C × D
 held-4 lent = (now (lent .0), now (lent .1 .0), now (lent .1 .1 .0), now (lent .1 .1 .1 .0))
 
-abbrev pub held-7 : {A B C D E F G Rest : Type 0} → RefT A × (RefT B × (RefT C × (RefT D × (RefT E × (RefT F × (RefT G × Rest)))))) → A × B × C × D × E × F × G
-held-7 lent = (now (lent .0), now (lent .1 .0), now (lent .1 .1 .0), now (lent .1 .1 .1 .0), now (lent .1 .1 .1 .1 .0), now (lent .1 .1 .1 .1 .1 .0), now (lent .1 .1 .1 .1 .1 .1 .0))
+abbrev pub held-6 : {A B C D E F Rest : Type 0} → RefT A × (RefT B × (RefT C × (RefT D × (RefT E × (RefT F × Rest))))) → A × B × C × D × E × F
+held-6 lent = (now (lent .0), now (lent .1 .0), now (lent .1 .1 .0), now (lent .1 .1 .1 .0), now (lent .1 .1 .1 .1 .0), now (lent .1 .1 .1 .1 .1 .0))
+
+abbrev pub held-7 : {A B C D E F G Rest : Type 0} → RefT A × (RefT B × (RefT C × (RefT D × (RefT E × (RefT F × (RefT G × Rest)))))) → A × (B × C × D × E × F × G)
+held-7 lent = (now (lent .0), held-6 (lent .1))
 
 -- The call on a record lent by reference is proved by hand, and the checker reads no such promise off it. This is what its contract states (`requested-stated`).
 abbrev pub requested : (κs : Lfts 2) → Args primary-request.signature κs → Res primary-request.signature κs → AtExit primary-request.ended κs → Type 0
 requested κs entry answer exit =
-    outcome answer (now (exit .1 .1 .0)) (now (exit .1 .1 .1 .0)) ≡ primaryStep (settings (entry .0) (entry .1 .0)) (now (entry .1 .1 .0)) (now (entry .1 .1 .1 .0))
+    outcome answer (lent (now (exit .1 .1 .0)) (now (exit .1 .1 .1 .0)))
+    ≡ primaryRequest (settings (entry .0) (entry .1 .0)) (now (entry .1 .1 .0)) (now (entry .1 .1 .1 .0))
 
 -- Every public call of the library.
 pub record EveryCall : Type 0 where
@@ -118,7 +146,7 @@ pub record EveryCall : Type 0 where
   pub of-write-u16 : OneContent write-u16.Learnt (λ κs exit. held-1 exit)
   pub of-write-u32 : OneContent write-u32.Learnt (λ κs exit. held-1 exit)
   pub of-write-u64 : OneContent write-u64.Learnt (λ κs exit. held-1 exit)
-  -- terms
+  -- basics
   pub of-is-none : OneAnswer is-none.Learnt
   pub of-owner : OneAnswer owner.Learnt
   pub of-owned-or-0 : OneAnswer owned-or-0.Learnt
@@ -127,7 +155,7 @@ pub record EveryCall : Type 0 where
   pub of-same-round : OneAnswer same-round.Learnt
   pub of-is-null : OneAnswer is-null.Learnt
   pub of-same-value : OneAnswer same-value.Learnt
-  pub of-is-vote-by : OneAnswer is-vote-by.Learnt
+  pub of-is-vote-up-to : OneAnswer is-vote-up-to.Learnt
   pub of-place-of : OneAnswer place-of.Learnt
   pub of-nowhere : OneAnswer nowhere.Learnt
   pub of-verdict-number : OneAnswer verdict-number.Learnt
@@ -149,48 +177,74 @@ pub record EveryCall : Type 0 where
   pub of-is-within : OneAnswer is-within.Learnt
   pub of-reaches : OneAnswer reaches.Learnt
   pub of-reaches-majority : OneAnswer reaches-majority.Learnt
-  -- sequence
-  pub of-fresh-primary : OneAnswer fresh-primary.Learnt
-  pub of-primary-by-value : OneAnswer primary-by-value.Learnt × OneContent primary-by-value.Learnt (λ κs exit. held-1 (exit .1 .1 .1))
+  -- columns
+  pub of-column-round-at : OneAnswer column-round-at.Learnt
+  pub of-column-put-round : OneContent column-put-round.Learnt (λ κs exit. held-1 exit)
+  pub of-column-byte-at : OneAnswer column-byte-at.Learnt
+  pub of-column-put-byte : OneContent column-put-byte.Learnt (λ κs exit. held-1 exit)
+  pub of-column-value-at : OneAnswer column-value-at.Learnt
+  pub of-column-put-value : OneContent column-put-value.Learnt (λ κs exit. held-1 exit)
+  -- primary_rule
+  pub of-primary-fresh-cell : OneAnswer primary-fresh-cell.Learnt
+  pub of-primary-is-possible : OneAnswer primary-is-possible.Learnt
+  pub of-take-request : OneAnswer take-request.Learnt
   -- primary
+  pub of-primary-is-allowed : OneAnswer primary-is-allowed.Learnt
   pub of-primary-step : OneAnswer primary-step.Learnt × OneContent primary-step.Learnt (λ κs exit. held-2 (exit .1 .1))
   pub of-primary-request : OneAnswer requested × OneContent requested (λ κs exit. held-2 (exit .1 .1))
-  -- ballot
-  pub of-fresh-ballot-cell : OneAnswer fresh-ballot-cell.Learnt
-  pub of-possible-ballot-cell : OneAnswer possible-ballot-cell.Learnt
-  pub of-ballot-place-of : OneAnswer ballot-place-of.Learnt
+  -- acceptor_rule
+  pub of-acceptor-fresh-cell : OneAnswer acceptor-fresh-cell.Learnt
+  pub of-acceptor-is-possible : OneAnswer acceptor-is-possible.Learnt
+  pub of-order-of : OneAnswer order-of.Learnt
   pub of-obey : OneAnswer obey.Learnt
+  -- acceptor_tables
+  pub of-acceptor-is-allowed : OneAnswer acceptor-is-allowed.Learnt
   -- acceptor
   pub of-acceptor-step : OneAnswer acceptor-step.Learnt × OneContent acceptor-step.Learnt (λ κs exit. held-4 (exit .1 .1 .1))
-  -- bid
-  pub of-fresh-bid-cell : OneAnswer fresh-bid-cell.Learnt
-  pub of-own-allowed : OneAnswer own-allowed.Learnt
-  pub of-possible-bid-cell : OneAnswer possible-bid-cell.Learnt
-  -- takeover
-  pub of-start-cell : OneAnswer start-cell.Learnt
+  -- backup_cell
+  pub of-backup-fresh-cell : OneAnswer backup-fresh-cell.Learnt
+  pub of-backup-is-possible : OneAnswer backup-is-possible.Learnt
+  -- backup_rule
+  pub of-start : OneAnswer start.Learnt
   pub of-take-promise : OneAnswer take-promise.Learnt
+  -- backup_tables
+  pub of-backup-is-allowed : OneAnswer backup-is-allowed.Learnt
+  pub of-backup-cell-at : OneAnswer backup-cell-at.Learnt
+  pub of-backup-store-cell : OneContent backup-store-cell.Learnt (λ κs exit. held-6 exit)
   -- backup
   pub of-backup-start : OneAnswer backup-start.Learnt × OneContent backup-start.Learnt (λ κs exit. held-7 (exit .1 .1 .1 .1 .1 .1 .1))
   pub of-backup-step : OneAnswer backup-step.Learnt × OneContent backup-step.Learnt (λ κs exit. held-7 (exit .1 .1 .1))
-  -- tally
-  pub of-fresh-tally : OneAnswer fresh-tally.Learnt
+  -- learner_cell
+  pub of-learner-fresh-cell : OneAnswer learner-fresh-cell.Learnt
   pub of-is-decided : OneAnswer is-decided.Learnt
-  pub of-possible-tally-cell : OneAnswer possible-tally-cell.Learnt
+  pub of-value-of : OneAnswer value-of.Learnt
+  pub of-learner-is-possible : OneAnswer learner-is-possible.Learnt
+  pub of-with-voter : OneAnswer with-voter.Learnt
+  -- learner_rule
   pub of-count-vote : OneAnswer count-vote.Learnt
-  -- tallies
-  pub of-sizes-allowed : OneAnswer sizes-allowed.Learnt
-  pub of-cell-at : OneAnswer cell-at.Learnt
-  pub of-store-cell : OneContent store-cell.Learnt (λ κs exit. held-3 exit)
+  -- learner_tables
+  pub of-learner-is-allowed : OneAnswer learner-is-allowed.Learnt
+  pub of-learner-cell-at : OneAnswer learner-cell-at.Learnt
+  pub of-learner-store-cell : OneContent learner-store-cell.Learnt (λ κs exit. held-3 exit)
   pub of-all-possible : OneAnswer all-possible.Learnt
   -- learner
   pub of-learner-step : OneAnswer learner-step.Learnt × OneContent learner-step.Learnt (λ κs exit. held-3 (exit .1 .1 .1))
   pub of-answer-for : OneAnswer answer-for.Learnt
   pub of-learner-answer : OneAnswer learner-answer.Learnt × OneContent learner-answer.Learnt (λ κs exit. held-2 (exit .1 .1 .1 .1 .1 .1))
-  -- delivery
+  -- learner_delivery
   pub of-learner-deliver : OneAnswer learner-deliver.Learnt × OneContent learner-deliver.Learnt (λ κs exit. held-2 (exit .1 .1 .1 .1 .1))
-  -- holes
+  -- learner_holes
   pub of-find-hole : OneAnswer find-hole.Learnt
   pub of-learner-first-hole : OneAnswer learner-first-hole.Learnt × OneContent learner-first-hole.Learnt (λ κs exit. held-1 (exit .1 .1 .1 .1 .1))
-  -- saved
+  -- learner_file
+  pub of-saved-length : OneAnswer saved-length.Learnt
+  pub of-put-header : OneContent put-header.Learnt (λ κs exit. held-1 exit)
+  pub of-is-marked : OneAnswer is-marked.Learnt
+  pub of-version-in : OneAnswer version-in.Learnt
+  pub of-same-settings : OneAnswer same-settings.Learnt
+  pub of-put-cells : OneContent put-cells.Learnt (λ κs exit. held-1 exit)
+  pub of-saved-possible : OneAnswer saved-possible.Learnt
+  pub of-store-saved : OneContent store-saved.Learnt (λ κs exit. held-3 exit)
+  -- learner_saved
   pub of-learner-save : OneAnswer learner-save.Learnt × OneContent learner-save.Learnt (λ κs exit. held-1 (exit .1 .1 .1 .1 .1))
   pub of-learner-read-saved : OneAnswer learner-read-saved.Learnt × OneContent learner-read-saved.Learnt (λ κs exit. held-3 (exit .1 .1 .1))

@@ -5,10 +5,10 @@ use Rattle.bench.proofs.main.Statement.{statement}
 use Rattle.bench.proofs.main.Tie as tie
 
 abbrev Inv-loop : tie.InvT-loop
-Inv-loop chunk₀ line₀ next₀ rounds₀ vote-rounds₀ values₀ backup-rounds₀ phases₀ promisers₀ best-vote-rounds₀ best-values₀ own-values₀ learner-rounds₀ voters₀ learner-values₀ input₀ turns₀ chunk line next rounds vote-rounds values backup-rounds phases promisers best-vote-rounds best-values own-values learner-rounds voters learner-values input turns = Unit {0}
+Inv-loop _ _ _ _ _ _ _ _ _ _ _ _ _ _ _ _ _ _ _ _ _ _ _ _ _ _ _ _ _ _ _ _ _ _ = Unit {0}
 
 abbrev μ-loop : tie.MeasureT-loop
-μ-loop chunk₀ line₀ next₀ rounds₀ vote-rounds₀ values₀ backup-rounds₀ phases₀ promisers₀ best-vote-rounds₀ best-values₀ own-values₀ learner-rounds₀ voters₀ learner-values₀ input₀ turns₀ chunk line next rounds vote-rounds values backup-rounds phases promisers best-vote-rounds best-values own-values learner-rounds voters learner-values input turns = turns
+μ-loop _ _ _ _ _ _ _ _ _ _ _ _ _ _ _ _ _ _ _ _ _ _ _ _ _ _ _ _ _ _ _ _ _ turns = turns
 
 fresh-vote-rounds-requires : tie.Need-fresh-vote-rounds-requires Inv-loop μ-loop
 fresh-vote-rounds-requires c κs = search needs
