@@ -29,7 +29,7 @@ extern "C" {
 #define MYRTHAKEL_VALUE_LENGTH 16
 #define MYRTHAKEL_SAVED_LENGTH(instances) (8 + 21 * (size_t)(instances))
 
-/* Verdicts: what to do with the packet as the call left it. The last three are for calls without a packet: done; nothing to tell. */
+/* Verdicts: what to do with the packet as the call left it. The last three are for calls without a packet: done; not decided yet; no hole. */
 enum {
     MYRTHAKEL_TO_ACCEPTORS = 101,
     MYRTHAKEL_TO_LEADER = 102,
@@ -135,8 +135,7 @@ uint32_t myrthakel_learner_step(uint32_t acceptors, uint32_t instances,
                                 uint64_t *values, size_t values_length);
 
 /*
- * What a learner says of an instance: done, with its value in the two numbers lent, or not yet. Only a value that is told is written over them. Refusals:
- * 7, 8, 17.
+ * The answer for an instance: done, with its value in the two numbers lent, or not yet. Only a decided value is written over them. Refusals: 7, 8, 17.
  */
 uint32_t myrthakel_learner_answer(uint32_t acceptors, uint32_t instances, uint32_t instance,
                                   const uint32_t *rounds, size_t rounds_length,
@@ -156,8 +155,8 @@ uint32_t myrthakel_learner_deliver(uint32_t acceptors, uint32_t instances,
                                    uint32_t *count);
 
 /*
- * The first hole, an undecided instance below the highest decided one: done, with its number in the one lent, or no hole. Only a hole that is told is
- * written over it. Looks at every cell. Refusals: 7, 17.
+ * The first hole, an undecided instance below the highest decided one: done, with its number in the one lent, or no hole. Only a hole that is found
+ * is written over it. Looks at every cell. Refusals: 7, 17.
  */
 uint32_t myrthakel_learner_first_hole(uint32_t acceptors, uint32_t instances,
                                       const uint32_t *rounds, size_t rounds_length,

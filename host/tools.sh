@@ -29,7 +29,7 @@ else
 fi
 
 # The libraries that a host links.
-libraries='primary acceptor backup learner delivery holes saved'
+libraries='primary acceptor backup learner learner_delivery learner_holes learner_saved'
 
 archive_files() { # NAME..
     printf 'target/staticlib/lib%s.a\n' "$@"
