@@ -53,8 +53,8 @@ fn store_cell(
     values[high + 1] = cell.value.low;
 }
 
-// What the rule came to is stored and sent. One arm stores first and the other sends first: arms that are alike the compiler merges, at five
-// instructions a packet.
+// What the rule came to is stored and sent. One arm stores first and the other sends first: arms that are alike the compiler merges, which cost five
+// instructions a packet when it was tried.
 fn carry_out(
     answer: Ruled,
     packet: &mut [u8],
