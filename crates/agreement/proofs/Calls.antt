@@ -4,3 +4,4 @@ pub mod Primary
 pub mod Acceptor
 pub mod Backup
 pub mod Learner
+pub mod Reading

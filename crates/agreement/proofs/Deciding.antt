@@ -17,7 +17,7 @@ use Rattle.quorum.proofs.Voters.{listed, set-of, half-iff}
 use Rattle.learner_cell.specs.Cell.{isDecided, valueOf, possible}
 use Rattle.learner_cell.proofs.Laws.{possible-inside}
 use Rattle.learner_tables.specs.Tables.{cellAt}
-use Rattle.agreement.specs.Run.{Caller, acceptor, Sent, Boxes, Call, Later, VoteSent, Decided}
+use Rattle.agreement.specs.Run.{Caller, acceptor, Sent, sent, Boxes, Call, Later, VoteSent, Decided, WantedFor}
 use Rattle.agreement.proofs.Slot.{Slot, vote, LearnerSound}
 use Rattle.agreement.proofs.Slot.Decision.{DecidedIn, one-decision}
 use Rattle.agreement.proofs.Representing.{Knows, a-vote, Represents}
@@ -50,17 +50,29 @@ module _ {s : Settings} {w : Boxes} (h : Represents s w) where
       let q = set-of (s .acceptors) (d .voters) (d .distinct) (d .are-acceptors) in
       record { set = q .set; quorum = half-iff (q .names) .0 (d .more-than-half); voted = λ a m. vote-there (d .voted a (q .names .members a .1 m)) }
 
+  -- one of the votes that decided it
+  one-vote : {i : Instance} {v : Value} (d : Decided s w i v) → (a : ℕ) × Mem (vote a (d .round) v) (h .slots (i .0) .votes)
+  one-vote d =
+      let q = decided-in d in
+      let a = quorums-share (q .quorum) (q .quorum) in
+      (a .member, q .voted (a .member) (a .in-first))
+
+  pub decided-sent : {i : Instance} {v : Value} → Decided s w i v → (x : Sent) × Mem x (w .packets)
+  decided-sent {i} d = let x = h .told .votes i _ (one-vote d .1) in (sent _ (x .packet), x .was-sent)
+
   -- what is decided has a cell
   pub decided-inside : {i : Instance} {v : Value} → Decided s w i v → i .0 < s .instances
   decided-inside {i} d =
-      let q = decided-in d in
-      let a = quorums-share (q .quorum) (q .quorum) in
-      let spot = h .has-place (i .0) _ (q .voted (a .member) (a .in-first)) in
+      let spot = h .has-place (i .0) _ (one-vote d .1) in
       let at = placed-index (s .instances) i (spot .0) (spot .1) in
       rw (← at .0) (at .1)
 
   pub decided-once : {i : Instance} {v u : Value} → Decided s w i v → Decided s w i u → v ≡ u
   decided-once {i} {v} {u} d e = one-decision (h .sound (i .0)) (d .round) (e .round) v u (decided-in d) (decided-in e)
+
+  -- what is decided was voted for, so proposed, and what is proposed was wanted
+  pub decided-wanted : {i : Instance} {v : Value} → Decided s w i v → WantedFor (w .wanted) i v
+  decided-wanted {i} d = h .wants .proposes (i .0) _ (h .sound (i .0) .vote-proposed _ (one-vote d .1))
 
   pub cell-decided : (which : ℕ) (i : Instance) → i .0 < s .instances → possible (s .acceptors) (cellAt (w .learner which) (i .0)) ≡ true
       → isDecided (s .acceptors) (cellAt (w .learner which) (i .0)) ≡ true → Decided s w i (valueOf (s .acceptors) (cellAt (w .learner which) (i .0)))

@@ -7,8 +7,8 @@ use mathlib.Core.List.{List, [], _∷_}
 use mathlib.Core.Logic.{⊎-elim}
 use native.Mathlib.Omega.{arith}
 use lib.Count.{ones}
-use lib.Dec.{eqb, lit<}
-use borrow.Author.Tests.{eqb-true, eqb-false, ltb-true}
+use lib.Dec.{lit<}
+use borrow.Author.Tests.{ltb-true}
 use Rattle.numbers.specs.BigEndian.{numberAt}
 use Rattle.basics.specs.declared.Round.{Round}
 use Rattle.basics.specs.declared.Value.{Value}
@@ -33,7 +33,7 @@ use Rattle.player.specs.Step.{afterReading, afterPlacing, ruled, ruleAt, act, s
 use Rattle.quorum.specs.declared.Settings.{Settings}
 use Rattle.quorum.specs.Settings.{acceptorsAllowed, instancesAllowed, allowed}
 use Rattle.quorum.specs.Quorum.{majority, bit, hasMember, withMember, within, reaches}
-use Rattle.quorum.specs.Voters.{Mem, newest, older}
+use Rattle.quorum.specs.Voters.{Mem}
 use Rattle.columns.specs.Walks.{cellsFrom, every}
 use Rattle.primary_rule.specs.Rule as primaryRule
 use Rattle.primary.specs.Primary as primary
@@ -50,41 +50,16 @@ use Rattle.learner_tables.specs.Tables as learnerTables
 use Rattle.learner.specs.Learner as learner
 use Rattle.learner_delivery.specs.Delivery.{delivered}
 use Rattle.learner_holes.specs.Holes as holes
-use Rattle.agreement.specs.Run.{Caller, Sent, sent, Boxes, freshBoxes, put, Handed, Call, Later, now, and-then, Run, VoteSent, Decided}
+use Rattle.agreement.specs.Run.{by-start, Boxes, freshBoxes, put, Handed, Call, Later, now, and-then, Run, Decided}
 use Rattle.agreement.specs.Run as run
 use Rattle.agreement.specs.Agreement.{Agreed}
-use Rattle.agreement.specs.Examples.{Row, primary-gets, acceptor-gets, backup-starts, backup-gets, learner-gets, zeros, after, answers, sameBytes, wasSent}
+use Rattle.agreement.specs.Examples.{Row, primary-gets, primary-gets-by-reference, acceptor-gets, backup-starts, backup-gets, learner-gets, zeros, after, answers, sameBytes, wasSent}
 use Rattle.agreement.specs.Examples.{readsRequest, mayHand, isHanded, played, plays, three, first, v, u, deciding, takingOver, early, taken, leavingAHole}
-use Rattle.agreement.specs.Examples.{repairing, holed, repaired, splitting, split, Computed}
-use Rattle.agreement.proofs.Families.{nowhere, extend}
+use Rattle.agreement.specs.Examples.{repairing, holed, repaired, splitting, split, five, seven, threeOfFive, fourOfSeven, ofFive, ofSeven, Computed}
+use Rattle.agreement.proofs.Finding.{was-sent, isAcceptor, sentBy, vote-found, two-votes}
 use Rattle.agreement.proofs.Agreement.{agreement}
 
 -- ---- rows that may be played are a run
-
-same-bytes : (p q : List ℕ) → sameBytes p q ≡ true → p ≡ q
-unfolding sameBytes
-same-bytes [] [] e = refl
-same-bytes [] (b ∷ q) e = absurd (false≢true e)
-same-bytes (a ∷ p) [] e = absurd (false≢true e)
-same-bytes (a ∷ p) (b ∷ q) e =
-    let both = both-true (eqb a b) (sameBytes p q) e in
-    let heads = eqb-true a b (both .0) in
-    let tails = same-bytes p q (both .1) in
-    λ i. heads i ∷ tails i
-
--- whose packet it was
-record By (p : List ℕ) (packets : List Sent) : Type 0 where
-  by : Caller
-  there : Mem (sent by p) packets
-
-was-sent : (p : List ℕ) (packets : List Sent) → wasSent p packets ≡ true → By p packets
-unfolding wasSent
-was-sent p [] e = absurd (false≢true e)
-was-sent p (x ∷ xs) e =
-    ⊎-elim
-    (λ same. record { by = x .by; there = newest (ap (sent (x .by)) (same-bytes p (x .packet) same)) })
-    (λ rest. let found = was-sent p xs rest in record { by = found .by; there = older (found .there) })
-    (or-cases (sameBytes p (x .packet)) (wasSent p xs) e)
 
 may-hand : (w : Boxes) (m : Message) → mayHand w (packetOf m) ≡ true → Handed w (packetOf m)
 may-hand w m e =
@@ -100,6 +75,7 @@ may-hand w m e =
 
 row-calls : (s : Settings) (w : Boxes) (row : Row) → isHanded w row ≡ true → Call s w (after s w row)
 row-calls s w (primary-gets m answer) e = run.Call.primary-steps (packetOf m) (may-hand w m e)
+row-calls s w (primary-gets-by-reference m answer) e = run.Call.primary-requests (packetOf m) (may-hand w m e)
 row-calls s w (acceptor-gets own m answer) e = run.Call.acceptor-steps own (packetOf m) (may-hand w m e)
 row-calls s w (backup-starts own i floor v answer) e =
     let c = both-true _ _ e in
@@ -115,7 +91,7 @@ row-calls s w (backup-starts own i floor v answer) e =
 row-calls s w (backup-gets own m answer) e = run.Call.backup-steps own (packetOf m) (may-hand w m e)
 row-calls s w (learner-gets which m answer) e = run.Call.learner-steps which (packetOf m) (may-hand w m e)
 
-rows-run : {s : Settings} {w : Boxes} (x : Boxes) (rows : List Row) → Later (Call s) w x → plays s x rows ≡ true → Later (Call s) w (played s x rows)
+pub rows-run : {s : Settings} {w : Boxes} (x : Boxes) (rows : List Row) → Later (Call s) w x → plays s x rows ≡ true → Later (Call s) w (played s x rows)
 unfolding plays played
 rows-run x [] before e = before
 rows-run {s} x (row ∷ rows) before e =
@@ -123,30 +99,13 @@ rows-run {s} x (row ∷ rows) before e =
     let b = both-true (isHanded x row) (answers s x row) (a .0) in
     rows-run (after s x row) rows (and-then before (row-calls s x row (b .0))) (a .1)
 
--- ---- two of three acceptors are more than half
-
-pub two-votes : (w : Boxes) (a b : ℕ) → eqb a b ≡ false → a < 3 → b < 3 → (r : Round) (x : Value) → VoteSent (w .packets) a first r x → VoteSent (w .packets) b first r x
-    → Decided three w first x
-two-votes w a b differ known-a known-b r x voted-a voted-b = record {
-  round = r;
-  voters = a ∷ b ∷ [];
-  distinct = (not-doubled, (nowhere, tt));
-  are-acceptors = extend known-a (extend known-b (λ _. nowhere));
-  more-than-half = lit< tt;
-  voted = extend voted-a (extend voted-b (λ _. nowhere));
-}
-  where
-    not-doubled : Mem a (b ∷ []) → ⊥
-    not-doubled (newest e) = eqb-false a b differ e
-    not-doubled (older m) = nowhere m
-
 -- ---- the examples, computed
 
 pub computed : Computed
 unfolding ones numberAt if_then_else_ need_or_then_ ownerOf ownedOr0 ownedNot0 rank atMost requestRow prepareRow promiseRow proposeRow voteRow tableRow keepsTable isVoteUpTo
     messageOf fieldsOf whenRequest whenPrepare whenPromise whenPropose whenVote fieldsIn readPacket packetWith packetOf placed afterReading afterPlacing ruled ruleAt act step saysSend
-    acceptorsAllowed instancesAllowed allowed majority bit hasMember withMember within reaches put sameBytes wasSent plays played
-    primaryRule.possible primaryRule.takeRequest primary.isAllowed primary.primary primary.primaryStep
+    acceptorsAllowed instancesAllowed allowed majority bit hasMember withMember within reaches put sameBytes wasSent isAcceptor sentBy plays played
+    primaryRule.possible primaryRule.takeRequest primary.isAllowed primary.primary primary.primaryStep primary.primaryByReference primary.primaryRequest
     acceptorRule.possible acceptorRule.orderOf acceptorRule.obeying acceptorRule.obey acceptorTables.isAllowed acceptor.acceptor acceptor.acceptorStep
     backupCell.isFresh backupCell.phaseFits backupCell.isStarted backupCell.possible backupRule.nextRound backupRule.start backupRule.counting backupRule.chosen
     backupRule.whenMajority backupRule.takePromise backupTables.isAllowed backup.backup backup.backupStep backup.backupStart
@@ -155,8 +114,8 @@ unfolding ones numberAt if_then_else_ need_or_then_ ownerOf ownedOr0 ownedNot0 r
     cellsFrom every delivered holes.decidedEndFrom holes.isHole holes.firstHoleFrom holes.findHole
 computed = record {
   deciding-plays = refl;
-  first-vote = record { packet = packetOf (Vote 0 first (theRound 0) v); switch = 0; reads = refl; was-sent = older (newest refl) };
-  second-vote = record { packet = packetOf (Vote 1 first (theRound 0) v); switch = 1; reads = refl; was-sent = newest refl };
+  first-vote = vote-found 0 first (theRound 0) v (early .packets) refl refl;
+  second-vote = vote-found 1 first (theRound 0) v (early .packets) refl refl;
   taking-over-plays = refl;
   old-votes-heard = refl;
   new-votes-heard = refl;
@@ -169,12 +128,11 @@ computed = record {
   both-delivered = refl;
   splitting-plays = refl;
   the-other-said = refl;
-  one-vote = record {
-    packet = packetOf (Vote 0 first (theRound 0) v);
-    switch = 0;
-    reads = refl;
-    was-sent = older (older (older (older (older (older (newest refl))))));
-  };
+  one-vote = vote-found 0 first (theRound 0) v (split .packets) refl refl;
+  three-of-five-plays = refl;
+  five-said = refl;
+  four-of-seven-plays = refl;
+  seven-said = refl;
 }
 
 -- ---- and what the theorem says of them
@@ -191,30 +149,37 @@ taken-run = rows-run early takingOver early-run (computed .taking-over-plays)
 pub repaired-run : Run (Call three) three repaired
 repaired-run = rows-run holed repairing (rows-run (freshBoxes 2) leavingAHole now (computed .leaving-a-hole-plays)) (computed .repairing-plays)
 
-three-allowed : allowed three ≡ true
-unfolding acceptorsAllowed instancesAllowed allowed
-three-allowed = refl
-
 -- Decided before the takeover, and so afterwards, whatever the backup had in mind.
 pub v-decided-early : Decided three early first v
-v-decided-early = two-votes early 0 1 refl (lit< tt) (lit< tt) (theRound 0) v (computed .first-vote) (computed .second-vote)
+v-decided-early = two-votes early 0 1 (theRound 0) v refl (computed .first-vote) (computed .second-vote)
 
 pub v-still-decided : Agreed three taken first v
-v-still-decided = agreement three three-allowed .decided-once early-run later-taken first v v-decided-early
+v-still-decided = agreement three .decided-once early-run later-taken first v v-decided-early
 
--- The null value is decided.
+-- The null value is decided,
 pub null-decided : Decided three repaired first null
-null-decided = agreement three three-allowed .said-is-decided repaired-run 0 first null (computed .null-said)
+null-decided = agreement three .said-is-decided repaired-run 0 first null (computed .null-said)
+
+-- and was named by a start.
+pub null-started : (own : ℕ) × Mem (by-start own first null) (repaired .wanted)
+null-started = agreement three .null-was-started repaired-run first null-decided
 
 -- The other value is decided where one acceptor voted for v, and so v is not.
 pub split-run : Run (Call three) three split
 split-run = rows-run (freshBoxes 2) splitting now (computed .splitting-plays)
 
 pub other-decided : Decided three split first u
-other-decided = agreement three three-allowed .said-is-decided split-run 0 first u (computed .the-other-said)
+other-decided = agreement three .said-is-decided split-run 0 first u (computed .the-other-said)
 
 pub one-vote-does-not-decide : Decided three split first v → ⊥
 one-vote-does-not-decide d =
-    let same : v ≡ u = agreement three three-allowed .decided-once split-run now first u other-decided .alone v d in
+    let same : v ≡ u = agreement three .decided-once split-run now first u other-decided .alone v d in
     let low : _≡_ {A = ℕ} 0x2a 0x2b = ap (λ (x : Value). x .low) same in
     omega arith
+
+-- A value is decided by three of five, and by four of seven.
+pub five-decided : Decided five ofFive first v
+five-decided = agreement five .said-is-decided (rows-run (freshBoxes 1) threeOfFive now (computed .three-of-five-plays)) 0 first v (computed .five-said)
+
+pub seven-decided : Decided seven ofSeven first u
+seven-decided = agreement seven .said-is-decided (rows-run (freshBoxes 1) fourOfSeven now (computed .four-of-seven-plays)) 0 first u (computed .seven-said)

@@ -56,3 +56,7 @@ module _ {A : Type 0} where
   pub put-other : (f : ℕ → A) (k : ℕ) (x : A) (n : ℕ) → (k ≡ n → ⊥) → put f k x n ≡ f n
   unfolding put
   put-other f k x n h = if-false x (f n) (ne-eqb k n h)
+
+  -- a member replaced by itself
+  pub put-itself : (f : ℕ → A) (k : ℕ) → put f k (f k) ≡ f
+  put-itself f k = λ i n. put-elim (λ m x. x ≡ f m) {f = f} {k = k} {x = f k} refl (λ m _. refl) n i

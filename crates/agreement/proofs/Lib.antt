@@ -8,7 +8,9 @@ pub mod Saying
 pub mod Deciding
 pub mod Delivering
 pub mod Refusals
+pub mod NotAllowed
 pub mod Agreement
 pub mod OtherRuns
+pub mod Finding
 pub mod Examples
 pub mod Slips

@@ -15,8 +15,11 @@ module _ {Calls Others : Boxes → Boxes → Type 0} (are : (w u : Boxes) → Ot
     decided-once = λ begun later. agreed .decided-once (as-calls begun) (as-calls later);
     keeps-saying = λ begun later. agreed .keeps-saying (as-calls begun) (as-calls later);
     said-is-decided = λ begun. agreed .said-is-decided (as-calls begun);
+    decided-was-wanted = λ begun. agreed .decided-was-wanted (as-calls begun);
+    null-was-started = λ begun. agreed .null-was-started (as-calls begun);
     votes-are-own = λ begun. agreed .votes-are-own (as-calls begun);
-    never-nothing = λ begun. agreed .never-nothing (as-calls begun);
-    never-by-7-or-17 = λ begun. agreed .never-by-7-or-17 (as-calls begun);
     one-list = λ begun later. agreed .one-list (as-calls begun) (as-calls later);
+    never-nothing = λ ok begun. agreed .never-nothing ok (as-calls begun);
+    never-by-7-or-17 = λ ok begun. agreed .never-by-7-or-17 ok (as-calls begun);
+    always-by-7 = λ never begun. agreed .always-by-7 never (as-calls begun);
   }

@@ -1,7 +1,7 @@
 -- In a run no player refuses by 7 or 17: its tables have their sizes and its cells are possible, so the ladder passes those two tests.
 -- Assumes nothing.
 use Prim.Native.Nat.{ℕ, _+_, _≤_}
-use mathlib.Core.Path.{_≡_, refl, sym, ap, _∙_, subst}
+use mathlib.Core.Path.{_≡_, refl, sym, subst}
 use mathlib.Core.Bool.{Bool, true, false}
 use mathlib.Core.List.{List, [], _∷_}
 use native.Mathlib.Omega.{arith}
@@ -58,9 +58,9 @@ use Rattle.learner_holes.specs.declared.Hole.the-variants as holes
 use Rattle.learner_delivery.specs.Delivery.{deliver}
 use Rattle.learner_holes.specs.Holes.{isHole, firstHoleFrom, findHole}
 use Rattle.learner_saved.specs.Saved.{save}
-use Rattle.agreement.specs.Run.{Boxes}
+use Rattle.agreement.specs.Run.{Boxes, primaryRecord}
 use Rattle.agreement.specs.Agreement.{Neither7Nor17, NeverBy7Or17}
-use Rattle.agreement.proofs.WellFormed.{WellFormed}
+use Rattle.agreement.proofs.WellFormed.{WellFormed, request-is-step}
 
 neither : (number : ℕ) → eqb number 7 ≡ false → eqb number 17 ≡ false → Neither7Nor17 number
 neither number seven seventeen = record { not-7 = eqb-false number 7 seven; not-17 = eqb-false number 17 seventeen }
@@ -220,16 +220,17 @@ module _ {s : Settings} {w : Boxes} (ok : allowed s ≡ true) (formed : WellForm
           ruled-well buffer (w .backup own) (backupTables.withCell (w .backup own) index) _
           (start-rules (s .acceptors) own (backupTables.cellAt (w .backup own) index) i floor v (formed .backups own .cells index (placed-index N i index stands .1)))
 
+  requesting : (p : List ℕ) → Neither7Nor17 (primary.primaryRequest s p (primaryRecord w) .answer)
+  unfolding primary.primaryRequest primary.primaryByReference
+  requesting p =
+      step-well p (primaryRecord w) (primary.primaryByReference s) ok (λ m. primary-laws.place-elim Neither7Nor17 m (neither 6 refl refl))
+      (λ m _ _. primary-rules N (primaryRecord w) m (rw (formed .primary .is) (formed .primary .possible)))
+
   pub never-by-7-or-17 : NeverBy7Or17 s w
-  unfolding primary.primaryRequest primary.primaryByReference acceptor.acceptorStep acceptor.acceptor backup.backupStep backup.backup learnerStep learner
+  unfolding acceptor.acceptorStep acceptor.acceptor backup.backupStep backup.backup learnerStep learner
   never-by-7-or-17 = record {
-    primary = λ p.
-        let held = formed .primary in
-        let c = primaryRule.cell (theInstance (held .next)) in
-        subst (λ (o : Outcome (Lent (List ℕ))). Neither7Nor17 (o .answer))
-        (sym (ap (primary.primaryStep s p) (held .is) ∙ primary-laws.slice-is-the-record s p (held .next)))
-        (step-well p c (primary.primaryByReference s) ok (λ m. primary-laws.place-elim Neither7Nor17 m (neither 6 refl refl))
-        (λ m _ _. primary-rules N c m (held .possible)));
+    primary = λ p. subst (λ (o : Outcome (Lent (List ℕ))). Neither7Nor17 (o .answer)) (sym (request-is-step s w (formed .primary) p)) (requesting p);
+    requests = requesting;
     acceptors = λ own p known.
         let t = w .acceptor own in
         step-well p t (acceptor.acceptor s own) (acceptor-tables.sized-allowed s own t ok known (formed .acceptors own .sized))

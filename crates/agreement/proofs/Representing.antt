@@ -1,5 +1,5 @@
--- When boxes represent slots, one for every instance number: the cell at an instance's place in the lent tables is its slot's, and each packet sent reads as a
--- message that its slot knows. Of slots that have no place nothing is said. N stands in this bridge and in the calls that keep it, and not in the slots.
+-- When boxes represent slots, one for every instance number: the cell at an instance's place in the lent tables is its slot's, each packet sent reads as a
+-- message that its slot knows, and what is proposed there was wanted. Of slots that have no place nothing is said. N stands in this bridge and in the calls that keep it, and not in the slots.
 -- Assumes nothing.
 use Prim.Native.Nat.{ℕ, _≤_}
 use mathlib.Core.Path.{_≡_, refl, sym, ap, _∙_, subst}
@@ -27,9 +27,10 @@ use Rattle.player.proofs.Steps.{step-elim}
 use Rattle.quorum.specs.declared.Settings.{Settings}
 use Rattle.quorum.specs.Voters.{Mem, older}
 use Rattle.acceptor_tables.specs.Tables as acceptors
+use Rattle.backup_cell.specs.Cell.{asking}
 use Rattle.backup_tables.specs.Tables as backups
 use Rattle.learner_tables.specs.Tables as learners
-use Rattle.agreement.specs.Run.{Caller, acceptor, Sent, sent, Boxes, put, Handed, VoteSent}
+use Rattle.agreement.specs.Run.{Caller, acceptor, Sent, sent, Wanted, Boxes, put, Handed, VoteSent, WantedFor, requested, started}
 use Rattle.agreement.specs.Run as run
 use Rattle.agreement.proofs.Families.{extend, put-elim, put-all, put-same, put-other}
 use Rattle.agreement.proofs.Slot.{Slot, Promise, Propose, Vote, promise, propose, vote, Sound, Unopened}
@@ -54,6 +55,18 @@ pub record Told (packets : List Sent) (slots : ℕ → Slot) : Type 0 where
   pub known : (x : Sent) → Mem x packets → Known slots x
   pub votes : (i : Instance) (x : Vote) → Mem x (slots (i .0) .votes) → VoteSent packets (x .sender) i (x .round) (x .value)
 
+-- ---- what was wanted
+
+-- What a slot proposed was wanted for it, and so was the own value of each backup that asks.
+pub record Wants (wanted : List Wanted) (slots : ℕ → Slot) : Type 0 where
+  pub proposes : (i : ℕ) (x : Propose) → Mem x (slots i .proposes) → WantedFor wanted (theInstance i) (x .value)
+  pub owns : (i b : ℕ) → slots i .backup b .phase ≡ asking → WantedFor wanted (theInstance i) (slots i .backup b .«own_value»)
+
+-- what was wanted stays so
+pub wanted-still : {before after : List Wanted} {i : Instance} {v : Value} → ((x : Wanted) → Mem x before → Mem x after) → WantedFor before i v → WantedFor after i v
+wanted-still up (requested packet switch reads there) = requested packet switch reads (up _ there)
+wanted-still up (started own there) = started own (up _ there)
+
 -- ---- boxes and slots
 
 -- The cells of an instance stand at this index.
@@ -67,6 +80,7 @@ pub record Represents (s : Settings) (w : Boxes) : Type 0 where
   pub backups : (b i index : ℕ) → PlacedAt (s .instances) i index → backups.cellAt (w .backup b) index ≡ slots i .backup b
   pub learners : (l i index : ℕ) → PlacedAt (s .instances) i index → learners.cellAt (w .learner l) index ≡ slots i .learner l
   pub told : Told (w .packets) slots
+  pub wants : Wants (w .wanted) slots
   pub sound : (i : ℕ) → Sound (s .acceptors) (slots i)
   -- what has no place is not voted for
   pub has-place : (i : ℕ) (x : Vote) → Mem x (slots i .votes) → (index : ℕ) × PlacedAt (s .instances) i index
@@ -150,6 +164,17 @@ module _ {packets : List Sent} {slots : ℕ → Slot} (told : Told packets slots
           put-elim (λ n (y : Slot). Mem x (y .votes) → VoteSent more (x .sender) (theInstance n) (x .round) (x .value)) (votes-there x)
           (λ n _ there. vote-still (told .votes (theInstance n) x there)) (i .0);
     }
+
+-- what is proposed and asked in the slot that moves was wanted
+pub wants-moved : {before after : List Wanted} {slots : ℕ → Slot} → Wants before slots → (j : ℕ) (next : Slot) → ((x : Wanted) → Mem x before → Mem x after)
+    → ((x : Propose) → Mem x (next .proposes) → WantedFor after (theInstance j) (x .value))
+    → ((b : ℕ) → next .backup b .phase ≡ asking → WantedFor after (theInstance j) (next .backup b .«own_value»)) → Wants after (put slots j next)
+wants-moved {after = after} wants j next up proposes owns = record {
+  proposes = put-all (λ i (y : Slot). (x : Propose) → Mem x (y .proposes) → WantedFor after (theInstance i) (x .value)) proposes
+      (λ i x m. wanted-still up (wants .proposes i x m));
+  owns = put-all (λ i (y : Slot). (b : ℕ) → y .backup b .phase ≡ asking → WantedFor after (theInstance i) (y .backup b .«own_value»)) owns
+      (λ i b asks. wanted-still up (wants .owns i b asks));
+}
 
 -- the cells of one kind of player
 module _ (N : ℕ) {Tables Cell : Type 0} (cellAt : Tables → ℕ → Cell) (cells : Slot → ℕ → Cell) (slots : ℕ → Slot) (tables : ℕ → Tables)

@@ -2,7 +2,7 @@
 -- player promises.
 -- Assumes nothing.
 use Prim.Native.Nat.{ℕ, _<_}
-use mathlib.Core.Path.{_≡_, refl, ap, _∙_}
+use mathlib.Core.Path.{_≡_, refl, sym, ap, _∙_, subst}
 use mathlib.Core.Bool.{Bool, true}
 use mathlib.Core.List.{List, [], _∷_}
 use lib.Dec.{lit<}
@@ -18,7 +18,8 @@ use Rattle.quorum.specs.declared.Settings.{Settings}
 use Rattle.quorum.specs.Voters.{Mem}
 use Rattle.primary_rule.specs.Rule as primaryRule
 use Rattle.primary_rule.proofs.Laws as primary-rule
-use Rattle.primary.specs.Primary.{primaryStep, primaryRequest, primaryByReference}
+use Rattle.primary.specs.Primary.{primaryStep, primaryRequest, primaryByReference, asSlice}
+use Rattle.primary.specs.Primary as primaries
 use Rattle.primary.proofs.Laws.{slice-is-the-record}
 use Rattle.primary.proofs.Promises as primary
 use Rattle.acceptor_rule.specs.Rule as acceptorRule
@@ -41,9 +42,10 @@ use Rattle.learner_tables.proofs.Laws as learner-tables
 use Rattle.learner.specs.Learner.{learner, learnerStep}
 use Rattle.learner.proofs.Promises as learner-laws
 use Rattle.learner.proofs.Promises.{learner-sized-stays}
-use Rattle.agreement.specs.Run.{Caller, Sent, sent, Boxes, freshBoxes, sending, Handed, Call, Later, now, and-then, Run}
+use Rattle.agreement.specs.Run.{Caller, Sent, sent, Boxes, freshBoxes, primaryRecord, sending, afterPrimary, Handed, Call, Later, now, and-then, Run}
 use Rattle.agreement.specs.Run as run
 use Rattle.agreement.proofs.Families.{nowhere, extend, put-all}
+use Rattle.agreement.proofs.Calls.Reading.{reads-keep}
 
 -- Tables of N cells.
 pub record WellFormedTables {Tables Cell : Type 0} (N : ℕ) (Sized : ℕ → Tables → Type 0) (Fitting : Tables → Type 0) (cellAt : Tables → ℕ → Cell) (possible : Cell → Bool)
@@ -109,6 +111,15 @@ pub sending-all : {Tables : Type 0} (P : Sent → Type 0) (by : Caller) (o : Out
     → ((x : Sent) → Mem x packets → P x) → (x : Sent) → Mem x (sending by o packets) → P x
 sending-all P by o packets new before = if-elim (λ l. (x : Sent) → Mem x l → P x) _ _ _ (λ e. extend (new e) before) (λ _. before)
 
+-- ---- the primary's two forms
+
+-- a record lent by reference is stepped as the slice of its one number
+pub request-is-step : (s : Settings) (w : Boxes) → WellFormedPrimary (s .instances) (w .primary) → (p : List ℕ)
+    → primaryStep s p (w .primary) ≡ asSlice (primaryRequest s p (primaryRecord w))
+request-is-step s w formed p =
+    let is = formed .is in
+    ap (primaryStep s p) is ∙ slice-is-the-record s p (formed .next) ∙ ap (λ l. asSlice (primaryRequest s p (primaries.cellAt l 0))) (sym is)
+
 -- ---- each call keeps them
 
 module _ {s : Settings} {w : Boxes} (formed : WellFormed s w) where
@@ -117,9 +128,9 @@ module _ {s : Settings} {w : Boxes} (formed : WellFormed s w) where
   handed-bytes (run.Handed.malformed bytes unread) = bytes
   handed-bytes (run.Handed.copy by there) = formed .bytes _ there
 
-  pub call-well-formed : {u : Boxes} → Call s w u → WellFormed s u
-  unfolding primaryRequest acceptorStep backupStep learnerStep
-  call-well-formed (run.Call.primary-steps p h) =
+  primary-well-formed : (p : List ℕ) → Handed w p → WellFormed s (afterPrimary w p (primaryStep s p (w .primary)))
+  unfolding primaryRequest
+  primary-well-formed p h =
       let before = formed .primary in
       let held = primaryRule.cell (theInstance (before .next)) in
       let steps = ap (primaryStep s p) (before .is) ∙ slice-is-the-record s p (before .next) in
@@ -136,6 +147,12 @@ module _ {s : Settings} {w : Boxes} (formed : WellFormed s w) where
         bytes = sending-all (λ x. Bytes (x .packet)) _ (primaryStep s p (w .primary)) (w .packets)
             (λ _. rw steps (step-bytes p held (handed-bytes h) (primaryByReference s))) (formed .bytes);
       }
+
+  pub call-well-formed : {u : Boxes} → Call s w u → WellFormed s u
+  unfolding acceptorStep backupStep learnerStep
+  call-well-formed (run.Call.primary-steps p h) = primary-well-formed p h
+  call-well-formed (run.Call.primary-requests p h) =
+      subst (λ o. WellFormed s (afterPrimary w p o)) (request-is-step s w (formed .primary) p) (primary-well-formed p h)
   call-well-formed (run.Call.acceptor-steps own p h) =
       let t = w .acceptor own in
       let before = formed .acceptors own in
@@ -212,7 +229,7 @@ module _ {s : Settings} {w : Boxes} (formed : WellFormed s w) where
             (formed .learners);
         bytes = sending-all (λ x. Bytes (x .packet)) _ (learnerStep s p t) (w .packets) (λ _. step-bytes p t (handed-bytes h) (learner s)) (formed .bytes);
       }
-  call-well-formed run.Call.only-reads = formed
+  call-well-formed (run.Call.only-reads reads) = subst (WellFormed s) (reads-keep reads) formed
 
 pub later-well-formed : {s : Settings} {w u : Boxes} → WellFormed s w → Later (Call s) w u → WellFormed s u
 later-well-formed formed now = formed

@@ -1,5 +1,6 @@
 -- Runs, call by call: who is handed which message, as its packet's bytes, and what the call answers. In the first a value
--- is decided and a backup takes over while old packets still travel; in the second a backup repairs a hole with the null value; in the third one vote is lost.
+-- is decided and a backup takes over while old packets still travel; in the second a backup repairs a hole with the null value; in the third one vote is lost;
+-- in the last two a majority of 5 and of 7 decides. The primary's record is lent as a slice, and once by reference.
 -- Assumes nothing.
 use Prim.Native.Nat.{ℕ, _^_}
 use mathlib.Core.Path.{_≡_}
@@ -20,13 +21,13 @@ use Rattle.wire.specs.declared.Reading.{Reading}
 use Rattle.wire.specs.declared.Reading.the-variants.{Read, Refused}
 use Rattle.wire.specs.Packet.{packetLength, readPacket, packetOf}
 use Rattle.quorum.specs.declared.Settings.{Settings}
-use Rattle.primary.specs.Primary.{primaryStep}
+use Rattle.primary.specs.Primary.{primaryStep, primaryRequest, asSlice}
 use Rattle.acceptor.specs.Acceptor.{acceptorStep}
 use Rattle.backup.specs.Backup.{backupStep, backupStart}
 use Rattle.learner.specs.Learner.{learnerStep}
 use Rattle.learner_holes.specs.declared.Hole.the-variants as holes
 use Rattle.learner_holes.specs.Holes.{findHole}
-use Rattle.agreement.specs.Run.{Sent, Boxes, freshBoxes, afterPrimary, afterAcceptor, afterBackup, afterLearner, VoteSent, not-yet, says, said}
+use Rattle.agreement.specs.Run.{Sent, Boxes, freshBoxes, primaryRecord, afterPrimary, afterAcceptor, afterBackup, afterStart, afterLearner, VoteSent, not-yet, says, said}
 use Rattle.agreement.specs.Agreement.{deliveredBy}
 
 -- The verdicts by their numbers.
@@ -48,6 +49,7 @@ decided = verdictNumber Decided
 -- A call: what it is handed, or what a start is given over a buffer of zeros, and the number that it answers.
 pub data Row : Type 0 where
   primary-gets : Message → (answer : ℕ) → Row
+  primary-gets-by-reference : Message → (answer : ℕ) → Row
   acceptor-gets : (own : ℕ) → Message → (answer : ℕ) → Row
   backup-starts : (own : ℕ) → Instance → (floor : ℕ) → Value → (answer : ℕ) → Row
   backup-gets : (own : ℕ) → Message → (answer : ℕ) → Row
@@ -58,15 +60,17 @@ zeros = replicate packetLength 0
 
 -- The boxes after a row.
 abbrev pub after : Settings → Boxes → Row → Boxes
-after s w (primary-gets m answer) = afterPrimary w (primaryStep s (packetOf m) (w .primary))
+after s w (primary-gets m answer) = afterPrimary w (packetOf m) (primaryStep s (packetOf m) (w .primary))
+after s w (primary-gets-by-reference m answer) = afterPrimary w (packetOf m) (asSlice (primaryRequest s (packetOf m) (primaryRecord w)))
 after s w (acceptor-gets own m answer) = afterAcceptor w own (acceptorStep s own (packetOf m) (w .acceptor own))
-after s w (backup-starts own i floor v answer) = afterBackup w own (backupStart s own i floor v zeros (w .backup own))
+after s w (backup-starts own i floor v answer) = afterStart w own i v (backupStart s own i floor v zeros (w .backup own))
 after s w (backup-gets own m answer) = afterBackup w own (backupStep s own (packetOf m) (w .backup own))
 after s w (learner-gets which m answer) = afterLearner w which (learnerStep s (packetOf m) (w .learner which))
 
 -- The call answers the row's number.
 abbrev pub answers : Settings → Boxes → Row → Bool
 answers s w (primary-gets m answer) = eqb (primaryStep s (packetOf m) (w .primary) .answer) answer
+answers s w (primary-gets-by-reference m answer) = eqb (primaryRequest s (packetOf m) (primaryRecord w) .answer) answer
 answers s w (acceptor-gets own m answer) = eqb (acceptorStep s own (packetOf m) (w .acceptor own) .answer) answer
 answers s w (backup-starts own i floor v answer) = eqb (backupStart s own i floor v zeros (w .backup own) .answer) answer
 answers s w (backup-gets own m answer) = eqb (backupStep s own (packetOf m) (w .backup own) .answer) answer
@@ -93,6 +97,7 @@ mayHand w p = readsRequest (readPacket p) || wasSent p (w .packets)
 
 abbrev pub isHanded : Boxes → Row → Bool
 isHanded w (primary-gets m answer) = mayHand w (packetOf m)
+isHanded w (primary-gets-by-reference m answer) = mayHand w (packetOf m)
 isHanded w (acceptor-gets own m answer) = mayHand w (packetOf m)
 isHanded w (backup-starts own i floor v answer) = ltb (i .0) (2 ^ 32) && ltb floor (2 ^ 32) && ltb (v .high) (2 ^ 64) && ltb (v .low) (2 ^ 64)
 isHanded w (backup-gets own m answer) = mayHand w (packetOf m)
@@ -168,7 +173,7 @@ taken = played three early takingOver
 abbrev pub leavingAHole : List Row
 leavingAHole =
     primary-gets (Request 9 v) toAcceptors
-    ∷ primary-gets (Request 9 u) toAcceptors
+    ∷ primary-gets-by-reference (Request 9 u) toAcceptors
     ∷ acceptor-gets 0 (Propose second (theRound 0) u) toLearners
     ∷ acceptor-gets 2 (Propose second (theRound 0) u) toLearners
     ∷ learner-gets 0 (Vote 2 second (theRound 0) u) hold
@@ -219,6 +224,53 @@ splitting =
 abbrev pub split : Boxes
 split = played three (freshBoxes 2) splitting
 
+-- ---- five acceptors, and seven
+
+abbrev pub five : Settings
+five = record { acceptors = 5; instances = 1 }
+
+abbrev pub seven : Settings
+seven = record { acceptors = 7; instances = 1 }
+
+abbrev pub threeOfFive : List Row
+threeOfFive =
+    primary-gets (Request 9 v) toAcceptors
+    ∷ acceptor-gets 4 (Propose first (theRound 0) v) toLearners
+    ∷ acceptor-gets 2 (Propose first (theRound 0) v) toLearners
+    ∷ acceptor-gets 0 (Propose first (theRound 0) v) toLearners
+    ∷ learner-gets 0 (Vote 4 first (theRound 0) v) hold
+    ∷ learner-gets 0 (Vote 2 first (theRound 0) v) hold
+    ∷ learner-gets 0 (Vote 0 first (theRound 0) v) decided
+    ∷ []
+
+-- Four of seven promise backup 3, and four others of them, one shared, vote.
+abbrev pub fourOfSeven : List Row
+fourOfSeven =
+    backup-starts 3 first 0 u toAcceptors
+    ∷ acceptor-gets 0 (Prepare first (theRound 3)) toLeader
+    ∷ acceptor-gets 1 (Prepare first (theRound 3)) toLeader
+    ∷ acceptor-gets 2 (Prepare first (theRound 3)) toLeader
+    ∷ acceptor-gets 3 (Prepare first (theRound 3)) toLeader
+    ∷ backup-gets 3 (Promise 0 first (theRound 3) none null) hold
+    ∷ backup-gets 3 (Promise 1 first (theRound 3) none null) hold
+    ∷ backup-gets 3 (Promise 2 first (theRound 3) none null) hold
+    ∷ backup-gets 3 (Promise 3 first (theRound 3) none null) toAcceptors
+    ∷ acceptor-gets 3 (Propose first (theRound 3) u) toLearners
+    ∷ acceptor-gets 4 (Propose first (theRound 3) u) toLearners
+    ∷ acceptor-gets 5 (Propose first (theRound 3) u) toLearners
+    ∷ acceptor-gets 6 (Propose first (theRound 3) u) toLearners
+    ∷ learner-gets 0 (Vote 3 first (theRound 3) u) hold
+    ∷ learner-gets 0 (Vote 4 first (theRound 3) u) hold
+    ∷ learner-gets 0 (Vote 5 first (theRound 3) u) hold
+    ∷ learner-gets 0 (Vote 6 first (theRound 3) u) decided
+    ∷ []
+
+abbrev pub ofFive : Boxes
+ofFive = played five (freshBoxes 1) threeOfFive
+
+abbrev pub ofSeven : Boxes
+ofSeven = played seven (freshBoxes 1) fourOfSeven
+
 -- ---- how they go
 
 -- Computed from the definitions: every row may be played and answers as it says, and the learners say this in the end.
@@ -239,3 +291,7 @@ pub record Computed : Type 0 where
   pub splitting-plays : plays three (freshBoxes 2) splitting ≡ true
   pub the-other-said : said three split 0 first ≡ says u
   pub one-vote : VoteSent (split .packets) 0 first (theRound 0) v
+  pub three-of-five-plays : plays five (freshBoxes 1) threeOfFive ≡ true
+  pub five-said : said five ofFive 0 first ≡ says v
+  pub four-of-seven-plays : plays seven (freshBoxes 1) fourOfSeven ≡ true
+  pub seven-said : said seven ofSeven 0 first ≡ says u

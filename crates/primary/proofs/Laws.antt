@@ -33,7 +33,7 @@ use Rattle.columns.proofs.Columns.{number-there, number-apart, below-set}
 use Rattle.primary_rule.specs.declared.Cell.{Cell}
 use Rattle.primary_rule.specs.Rule.{cell, proposing}
 use Rattle.primary_rule.proofs.Laws.{take-elim, proposes, CellFits}
-use Rattle.primary.specs.Primary.{cellAt, withCell, isAllowed, primaryAllowed, Fitting, place, rule, primary, primaryStep, primaryByReference, primaryRequest}
+use Rattle.primary.specs.Primary.{cellAt, withCell, isAllowed, primaryAllowed, Fitting, place, rule, primary, primaryStep, primaryByReference, primaryRequest, asSlice}
 
 -- ---- the record as a slice
 
@@ -100,10 +100,6 @@ module _ (s : Settings) (packet : List ℕ) (switch : ℕ) (value : Value) (fine
       (proposes (s .instances) (cell (theInstance next)) value below)
 
 -- ---- the two forms in which the record is lent
-
--- what is left of a record that is lent as a slice of one number
-abbrev pub asSlice : Outcome (Lent Cell) → Outcome (Lent (List ℕ))
-asSlice o = outcome (o .answer) (lent (o .left .packet) (o .left .tables .next .0 ∷ []))
 
 -- a slice of one number is stepped as the record with that number
 module _ (s : Settings) (packet : List ℕ) (number : ℕ) where

@@ -31,8 +31,8 @@ use Rattle.primary_rule.specs.declared.Cell.{Cell}
 use Rattle.primary_rule.specs.declared.Ruled.{Ruled}
 use Rattle.primary_rule.specs.declared.Ruled.the-variants as answers
 use Rattle.primary_rule.specs.Rule.{cell, takeRequest, rulingOf}
-use Rattle.primary.specs.Primary.{isAllowed, primaryAllowed, rule, primary, primaryStep, primaryByReference, primaryRequest}
-use Rattle.primary.proofs.Laws.{allowed-next, asSlice, slice-is-the-record}
+use Rattle.primary.specs.Primary.{isAllowed, primaryAllowed, rule, primary, primaryStep, primaryByReference, primaryRequest, asSlice}
+use Rattle.primary.proofs.Laws.{allowed-next, slice-is-the-record}
 
 -- ---- what the rule came to, sent
 

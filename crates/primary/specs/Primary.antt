@@ -3,12 +3,12 @@
 -- Assumes nothing.
 use Prim.Native.Nat.{ℕ, _^_}
 use mathlib.Core.Bool.{Bool, _&&_}
-use mathlib.Core.List.{List}
+use mathlib.Core.List.{List, [], _∷_}
 use lib.Dec.{eqb}
 use lib.ListN.{length, getD, set}
 use Rattle.basics.specs.declared.Place.{Place}
 use Rattle.basics.specs.declared.Place.the-variants.{At, Nowhere}
-use Rattle.basics.specs.Outcome.{Outcome, Lent}
+use Rattle.basics.specs.Outcome.{Outcome, outcome, Lent, lent}
 use Rattle.basics.specs.Rounds.{theInstance}
 use Rattle.messages.specs.declared.Message.{Message}
 use Rattle.messages.specs.Message.{whenRequest}
@@ -73,3 +73,7 @@ primaryByReference s = record {
 
 unfoldable pub primaryRequest : Settings → (packet : List ℕ) → Cell → Outcome (Lent Cell)
 primaryRequest s = step (primaryByReference s)
+
+-- What is left of the record, as a slice of one number.
+abbrev pub asSlice : Outcome (Lent Cell) → Outcome (Lent (List ℕ))
+asSlice o = outcome (o .answer) (lent (o .left .packet) (o .left .tables .next .0 ∷ []))

@@ -30,12 +30,14 @@ use Rattle.acceptor.specs.Acceptor.{place, acceptorStep}
 use Rattle.acceptor.specs.Acceptor as players
 use Rattle.acceptor.proofs.Laws.{rule-elim, prepare-placed, propose-placed, place-elim}
 use Rattle.acceptor.proofs.Promises.{promise-sent, vote-sent}
-use Rattle.agreement.specs.Run.{acceptor, sent, Boxes, put, afterAcceptor, Handed}
+use Rattle.backup_cell.specs.declared.Cell as Cells
+use Rattle.backup_cell.specs.Cell.{asking}
+use Rattle.agreement.specs.Run.{acceptor, sent, Boxes, put, afterAcceptor, Handed, WantedFor}
 use Rattle.agreement.proofs.Families.{extend, put-all, put-same}
-use Rattle.agreement.proofs.Slot.{Slot, propose, Sound, Unopened}
+use Rattle.agreement.proofs.Slot.{Slot, Propose, propose, Sound}
 use Rattle.agreement.proofs.Slot.Acceptor as slot
 use Rattle.agreement.proofs.Representing.{a-promise, a-vote, Told, PlacedAt, Represents, Grows, met, met-propose}
-use Rattle.agreement.proofs.Representing.{told-more, vote-still, cells-moved, backups-same, learners-same, all-sound, still-placed, unopened-still, step-acts}
+use Rattle.agreement.proofs.Representing.{told-more, vote-still, wants-moved, cells-moved, backups-same, learners-same, all-sound, still-placed, unopened-still, step-acts}
 use Rattle.agreement.proofs.WellFormed.{WellFormed, handed-bytes}
 
 -- the round of a possible cell, by number
@@ -54,6 +56,7 @@ module _ {s : Settings} {w : Boxes} (formed : WellFormed s w) (h : Represents s 
     backups = h .backups;
     learners = h .learners;
     told = subst (λ l. Told l (h .slots)) (sym (if-false (sent (acceptor own) p ∷ w .packets) (w .packets) quiet)) (h .told);
+    wants = h .wants;
     sound = h .sound;
     has-place = h .has-place;
     unopened = h .unopened;
@@ -67,6 +70,7 @@ module _ {s : Settings} {w : Boxes} (formed : WellFormed s w) (h : Represents s 
     backup = w .backup;
     learner = w .learner;
     packets = sent (acceptor own) (packetOf m) ∷ w .packets;
+    wanted = w .wanted;
   }
 
   module _ (i : Instance) (index : ℕ) (at : PlacedAt (s .instances) (i .0) index) (sized : Sized (s .instances) t) where
@@ -74,9 +78,9 @@ module _ {s : Settings} {w : Boxes} (formed : WellFormed s w) (h : Represents s 
     before = h .slots (i .0)
 
     obeys : (m : Message) (c : Cell) (next : Slot) → Sound (s .acceptors) next → ((a : ℕ) → next .acceptor a ≡ put (before .acceptor) own c a)
-        → ((b : ℕ) → next .backup b ≡ before .backup b) → ((l : ℕ) → next .learner l ≡ before .learner l) → (Unopened before → Unopened next)
+        → ((b : ℕ) → next .backup b ≡ before .backup b) → ((l : ℕ) → next .learner l ≡ before .learner l) → ((x : Propose) → Mem x (next .proposes) → Mem x (before .proposes))
         → Told (sent (acceptor own) (packetOf m) ∷ w .packets) (put (h .slots) (i .0) next) → Represents s (obeyed index m c)
-    obeys m c next sound acceptors backups learners unopened told = record {
+    obeys m c next sound acceptors backups learners no-more told = record {
       slots = put (h .slots) (i .0) next;
       acceptors =
           cells-moved (s .instances) cellAt (λ (x : Slot). x .acceptor) (h .slots) (w .acceptor) (h .acceptors) (i .0) next own (withCell t index c) c index at acceptors
@@ -84,9 +88,12 @@ module _ {s : Settings} {w : Boxes} (formed : WellFormed s w) (h : Represents s 
       backups = backups-same h (i .0) next backups;
       learners = learners-same h (i .0) next learners;
       told = told;
+      wants =
+          wants-moved (h .wants) (i .0) next (λ _ m. m) (λ x m. h .wants .proposes (i .0) x (no-more x m))
+          (λ b. subst (λ (c : Cells.Cell). c .phase ≡ asking → WantedFor (w .wanted) i (c .«own_value»)) (sym (backups b)) (h .wants .owns (i .0) b));
       sound = all-sound h (i .0) next sound;
       has-place = still-placed h (i .0) next (λ _ _. (index, at));
-      unopened = unopened-still h (i .0) next unopened;
+      unopened = unopened-still h (i .0) next (λ u x m. u x (no-more x m));
     }
 
     promises : (r : Round) (c : Cell) → before .acceptor own ≡ c → Writable (kind.Promise own i r (c .«vote_round») (c .value)) → c .round .0 ≤ r .0
@@ -100,7 +107,7 @@ module _ {s : Settings} {w : Boxes} (formed : WellFormed s w) (h : Represents s 
         let d = before .acceptor own in
         let next = slot.promising before own r in
         let grows : Grows before next = record { promises = λ x m. older m; proposes = λ x m. m; votes = λ x m. m } in
-        obeys _ _ next (slot.promises (h .sound (i .0)) own r low) (λ _. refl) (λ _. refl) (λ _. refl) (λ u. u)
+        obeys _ _ next (slot.promises (h .sound (i .0)) own r low) (λ _. refl) (λ _. refl) (λ _. refl) (λ _ m. m)
         (told-more (h .told) (i .0) next grows (acceptor own) _ writable (a-promise (rw put-same (newest refl)))
         (λ x m. vote-still (h .told) (i .0) next grows (acceptor own) _ writable (h .told .votes i x m))))
 
@@ -110,7 +117,7 @@ module _ {s : Settings} {w : Boxes} (formed : WellFormed s w) (h : Represents s 
         let next = slot.voting before own (propose r v) in
         let m = kind.Vote own i r v in
         let grows : Grows before next = record { promises = λ x m. m; proposes = λ x m. m; votes = λ x m. older m } in
-        obeys m (cell r r v) next (slot.votes (h .sound (i .0)) own (propose r v) proposed low) (λ _. refl) (λ _. refl) (λ _. refl) (λ u. u)
+        obeys m (cell r r v) next (slot.votes (h .sound (i .0)) own (propose r v) proposed low) (λ _. refl) (λ _. refl) (λ _. refl) (λ _ m. m)
         (told-more (h .told) (i .0) next grows (acceptor own) m writable (a-vote (rw put-same (newest refl)) refl)
         (extend (record { packet = packetOf m; switch = own; reads = written-reads m writable; was-sent = newest refl })
         (λ x there. vote-still (h .told) (i .0) next grows (acceptor own) m writable (h .told .votes i x there))))

@@ -35,34 +35,40 @@ use Rattle.backup.specs.Backup.{place, backupStep, backupStart}
 use Rattle.backup.specs.Backup as players
 use Rattle.backup.proofs.Laws.{rule-elim, place-elim, promise-placed, start-elim}
 use Rattle.backup.proofs.Promises.{propose-sent, prepare-sent}
-use Rattle.agreement.specs.Run.{backup, Sent, sent, Boxes, put, afterBackup, Handed, Given}
+use Rattle.agreement.specs.Run.{backup, Sent, sent, Wanted, by-start, Boxes, put, afterBackup, afterStart, Handed, Given, WantedFor}
+use Rattle.agreement.specs.Run as run
 use Rattle.agreement.proofs.Families.{Owned, owned, extend, put-all, put-same}
 use Rattle.agreement.proofs.Slot.{Slot, promise, propose, Sound, Unopened}
 use Rattle.agreement.proofs.Slot.Proposing.{moving, proposing}
 use Rattle.agreement.proofs.Slot.Backup as slot
-use Rattle.agreement.proofs.Representing.{a-prepare, a-propose, Told, PlacedAt, Represents, Grows, met, met-promise, told-same}
-use Rattle.agreement.proofs.Representing.{told-more, vote-still, cells-moved, acceptors-same, learners-same, all-sound, still-placed, unopened-still, step-acts}
+use Rattle.agreement.proofs.Representing.{a-prepare, a-propose, Told, Wants, wanted-still, PlacedAt, Represents, Grows, met, met-promise, told-same}
+use Rattle.agreement.proofs.Representing.{told-more, vote-still, wants-moved, cells-moved, acceptors-same, learners-same, all-sound, still-placed, unopened-still, step-acts}
 use Rattle.agreement.proofs.WellFormed.{WellFormed, handed-bytes}
 
 module _ {s : Settings} {w : Boxes} (formed : WellFormed s w) (h : Represents s w) (own : ℕ) where
   abbrev t : Tables
   t = w .backup own
 
-  refuses : (p : List ℕ) (number : ℕ) → saysSend number ≡ false → Represents s (afterBackup w own (unchanged p t number))
-  refuses p number quiet = record {
+  -- The boxes after the call left these tables; what was sent and what was wanted is this.
+  abbrev leaving : Tables → List Sent → List Wanted → Boxes
+  leaving tables packets wanted =
+      record { primary = w .primary; acceptor = w .acceptor; backup = put (w .backup) own tables; learner = w .learner; packets = packets; wanted = wanted }
+
+  keeps : (packets : List Sent) (wanted : List Wanted) → w .packets ≡ packets → w .wanted ≡ wanted → Represents s (leaving t packets wanted)
+  keeps packets wanted same-packets same-wanted = record {
     slots = h .slots;
     acceptors = h .acceptors;
     backups = put-all (λ b u. (i index : ℕ) → PlacedAt (s .instances) i index → cellAt u index ≡ h .slots i .backup b) (h .backups own) (h .backups);
     learners = h .learners;
-    told = subst (λ l. Told l (h .slots)) (sym (if-false (sent (backup own) p ∷ w .packets) (w .packets) quiet)) (h .told);
+    told = subst (λ l. Told l (h .slots)) same-packets (h .told);
+    wants = subst (λ l. Wants l (h .slots)) same-wanted (h .wants);
     sound = h .sound;
     has-place = h .has-place;
     unopened = h .unopened;
   }
 
-  -- The boxes after the backup stored a cell; what was sent is this.
-  abbrev stored : (j : ℕ) → Cell → List Sent → Boxes
-  stored j c packets = record { primary = w .primary; acceptor = w .acceptor; backup = put (w .backup) own (withCell t j c); learner = w .learner; packets = packets }
+  refuses : (p : List ℕ) (number : ℕ) → saysSend number ≡ false → Represents s (afterBackup w own (unchanged p t number))
+  refuses p number quiet = keeps _ (w .wanted) (sym (if-false (sent (backup own) p ∷ w .packets) (w .packets) quiet)) refl
 
   abbrev sending : Message → List Sent
   sending m = sent (backup own) (packetOf m) ∷ w .packets
@@ -73,8 +79,9 @@ module _ {s : Settings} {w : Boxes} (formed : WellFormed s w) (h : Represents s 
 
     moves : (packets : List Sent) (c : Cell) (next : Slot) → Sound (s .acceptors) next → ((b : ℕ) → next .backup b ≡ put (before .backup) own c b)
         → ((a : ℕ) → next .acceptor a ≡ before .acceptor a) → ((l : ℕ) → next .learner l ≡ before .learner l) → (Unopened before → Unopened next)
-        → Told packets (put (h .slots) (i .0) next) → Represents s (stored index c packets)
-    moves packets c next sound backups acceptors learners unopened told = record {
+        → Told packets (put (h .slots) (i .0) next) → {wanted : List Wanted} → Wants wanted (put (h .slots) (i .0) next)
+        → Represents s (leaving (withCell t index c) packets wanted)
+    moves packets c next sound backups acceptors learners unopened told wants = record {
       slots = put (h .slots) (i .0) next;
       acceptors = acceptors-same h (i .0) next acceptors;
       backups =
@@ -82,33 +89,59 @@ module _ {s : Settings} {w : Boxes} (formed : WellFormed s w) (h : Represents s 
           (cell-there t index c (index-within t index sized (placed-index (s .instances) i index at .1))) (λ n differs. cell-apart t index n c differs);
       learners = learners-same h (i .0) next learners;
       told = told;
+      wants = wants;
       sound = all-sound h (i .0) next sound;
       has-place = still-placed h (i .0) next (λ _ _. (index, at));
       unopened = unopened-still h (i .0) next unopened;
     }
 
-    starts : (r : Round) (v : Value) → Writable (kind.Prepare i r) → before .backup own .round .0 < r .0 → Represents s (stored index (started r v) (sending (kind.Prepare i r)))
+    -- the value that a start names is wanted
+    starts : (r : Round) (v : Value) → Writable (kind.Prepare i r) → before .backup own .round .0 < r .0
+        → Represents s (leaving (withCell t index (started r v)) (sending (kind.Prepare i r)) (by-start own i v ∷ w .wanted))
     starts r v writable above =
         let next = moving before (put (before .backup) own (started r v)) in
         let grows : Grows before next = record { promises = λ x m. m; proposes = λ x m. m; votes = λ x m. m } in
         moves _ (started r v) next (slot.starts (h .sound (i .0)) own r v above) (λ _. refl) (λ _. refl) (λ _. refl) (λ u. u)
         (told-more (h .told) (i .0) next grows (backup own) _ writable a-prepare
         (λ x m. vote-still (h .told) (i .0) next grows (backup own) _ writable (h .told .votes i x m)))
+        (wants-moved (h .wants) (i .0) next (λ _ m. older m) (λ x m. wanted-still (λ _ n. older n) (h .wants .proposes (i .0) x m))
+        (put-all (λ b (c : Cell). c .phase ≡ asking → WantedFor (by-start own i v ∷ w .wanted) i (c .«own_value»)) (λ _. run.WantedFor.started own (newest refl))
+        (λ b asks. wanted-still (λ _ n. older n) (h .wants .owns (i .0) b asks))))
 
     -- a promise for the round while asking
     module _ (a : ℕ) (k : Round) (v : Value) (told : Mem (promise a (before .backup own .round) k v) (before .promises)) (asks : before .backup own .phase ≡ asking) where
       abbrev counted : Cell
       counted = counting (before .backup own) a k v
 
-      held : Represents s (stored index counted (w .packets))
+      -- the own value is as it was, and wanted
+      own-wanted : WantedFor (w .wanted) i (counted .«own_value»)
+      unfolding counting
+      own-wanted =
+          if-elim (λ (c : Cell). WantedFor (w .wanted) i (c .«own_value»)) _ _ _ (λ _. h .wants .owns (i .0) own asks) (λ _. h .wants .owns (i .0) own asks)
+
+      -- and so is what it proposes: its own value, or one that was proposed before
+      chosen-wanted : WantedFor (w .wanted) i (chosen counted)
+      unfolding chosen
+      chosen-wanted =
+          if-elim (WantedFor (w .wanted) i) _ _ _ (λ _. own-wanted)
+          (λ some. h .wants .proposes (i .0) _ (slot.counts (h .sound (i .0)) own a k v told .best-proposed some))
+
+      wants-held : (c : Cell) → c .«own_value» ≡ counted .«own_value» → (b : ℕ) → put (before .backup) own c b .phase ≡ asking
+          → WantedFor (w .wanted) i (put (before .backup) own c b .«own_value»)
+      wants-held c same =
+          put-all (λ b (d : Cell). d .phase ≡ asking → WantedFor (w .wanted) i (d .«own_value»)) (λ _. subst (WantedFor (w .wanted) i) (sym same) own-wanted)
+          (h .wants .owns (i .0))
+
+      held : Represents s (leaving (withCell t index counted) (w .packets) (w .wanted))
       held =
           let next = moving before (put (before .backup) own counted) in
           let grows : Grows before next = record { promises = λ x m. m; proposes = λ x m. m; votes = λ x m. m } in
           moves (w .packets) counted next (slot.holds (h .sound (i .0)) own a k v told asks) (λ _. refl) (λ _. refl) (λ _. refl) (λ u. u)
           (told-same (h .told) (i .0) next grows (λ x m. m))
+          (wants-moved (h .wants) (i .0) next (λ _ m. m) (h .wants .proposes (i .0)) (wants-held counted refl))
 
       proposes : Owned own (before .backup own .round) → Quorum (s .acceptors) (counted .set) → Writable (kind.Propose i (counted .round) (chosen counted))
-          → Represents s (stored index (closed counted) (sending (kind.Propose i (counted .round) (chosen counted))))
+          → Represents s (leaving (withCell t index (closed counted)) (sending (kind.Propose i (counted .round) (chosen counted))) (w .wanted))
       proposes mine quorum writable =
           let next = proposing (moving before (put (before .backup) own (closed counted))) (propose (counted .round) (chosen counted)) in
           let grows : Grows before next = record { promises = λ x m. m; proposes = λ x m. older m; votes = λ x m. m } in
@@ -117,6 +150,7 @@ module _ {s : Settings} {w : Boxes} (formed : WellFormed s w) (h : Represents s 
           (extend (rw same (mine .positive)))
           (told-more (h .told) (i .0) next grows (backup own) _ writable (a-propose (rw put-same (newest refl)))
           (λ x m. vote-still (h .told) (i .0) next grows (backup own) _ writable (h .told .votes i x m)))
+          (wants-moved (h .wants) (i .0) next (λ _ m. m) (extend chosen-wanted (h .wants .proposes (i .0))) (wants-held (closed counted) refl))
 
     -- the same of the cell where it stands in the tables
     takes : (a : ℕ) (r k : Round) (v : Value) (p : List ℕ) (c : Cell) → before .backup own ≡ c → Mem (promise a r k v) (before .promises) → r .0 ≡ c .round .0
@@ -158,15 +192,20 @@ module _ {s : Settings} {w : Boxes} (formed : WellFormed s w) (h : Represents s 
       (owned own _ (brings .own-least) (brings .own-most) (begun .mine)) known (begun .inside)
       (λ _. propose-sent s own t index a i r k v allowed (formed .backups own .fitting) writable known fine asks same absent)))
 
+  start-refuses : (i : Instance) (v : Value) (buffer : List ℕ) (number : ℕ) → saysSend number ≡ false → Represents s (afterStart w own i v (unchanged buffer t number))
+  start-refuses i v buffer number quiet =
+      keeps _ _ (sym (if-false (sent (backup own) buffer ∷ w .packets) (w .packets) quiet)) (sym (if-false _ (w .wanted) quiet))
+
   pub start-represents : (i : Instance) (floor : ℕ) (v : Value) (buffer : List ℕ) → Given i floor v buffer
-      → Represents s (afterBackup w own (backupStart s own i floor v buffer t))
+      → Represents s (afterStart w own i v (backupStart s own i floor v buffer t))
   unfolding saysSend ruled if_then_else_
   start-represents i floor v buffer given =
-      start-elim s own i floor v buffer t (λ o. Represents s (afterBackup w own o)) (refuses buffer 7 refl) (refuses buffer 1 refl) (refuses buffer 8 refl)
+      start-elim s own i floor v buffer t (λ o. Represents s (afterStart w own i v o)) (start-refuses i v buffer 7 refl) (start-refuses i v buffer 1 refl)
+      (start-refuses i v buffer 8 refl)
       (λ allowed index at.
       let brings = allowed-tables s own t allowed in
-      start-rule-elim (λ r. Represents s (afterBackup w own (ruled buffer t (withCell t index) r))) (s .acceptors) own (cellAt t index) i floor v
-      (refuses buffer 17 refl) (refuses buffer 16 refl)
+      start-rule-elim (λ r. Represents s (afterStart w own i v (ruled buffer t (withCell t index) r))) (s .acceptors) own (cellAt t index) i floor v
+      (start-refuses i v buffer 17 refl) (start-refuses i v buffer 16 refl)
       (λ low.
       let r = theRound (nextRound own (max (cellAt t index .round .0) floor)) in
       let above = next-smallest own (cellAt t index .round .0) floor (brings .own-least) (brings .own-most) low .above-held in

@@ -33,7 +33,8 @@ use Rattle.agreement.specs.Run.{learner, sent, Boxes, put, afterLearner,
 use Rattle.agreement.proofs.Families.{put-all}
 use Rattle.agreement.proofs.Slot.{Slot, vote, LearnerSound}
 use Rattle.agreement.proofs.Slot.Learner.{listening, listens, joins}
-use Rattle.agreement.proofs.Representing.{Told, PlacedAt, Represents, met, met-vote, told-same, cells-moved, acceptors-same, backups-same, all-sound, still-placed, unopened-still, step-acts}
+use Rattle.agreement.proofs.Representing.{Told, PlacedAt, Represents, met, met-vote, told-same, wants-moved}
+use Rattle.agreement.proofs.Representing.{cells-moved, acceptors-same, backups-same, all-sound, still-placed, unopened-still, step-acts}
 
 same-value : (v u : Value) → sameValue v u ≡ true → v ≡ u
 same-value v u e =
@@ -51,6 +52,7 @@ module _ {s : Settings} {w : Boxes} (h : Represents s w) (which : ℕ) where
     backups = h .backups;
     learners = put-all (λ l u. (i index : ℕ) → PlacedAt (s .instances) i index → cellAt u index ≡ h .slots i .learner l) (h .learners which) (h .learners);
     told = subst (λ l. Told l (h .slots)) (sym (if-false (sent (learner which) p ∷ w .packets) (w .packets) quiet)) (h .told);
+    wants = h .wants;
     sound = h .sound;
     has-place = h .has-place;
     unopened = h .unopened;
@@ -64,7 +66,17 @@ module _ {s : Settings} {w : Boxes} (h : Represents s w) (which : ℕ) where
       if-elim (λ r. Represents s (afterLearner w which (ruled p t (withCell t index) r))) (isDecided (s .acceptors) c) (counts Decided c) (counts Hold c)
       (λ _. stored) (λ _. stored)
     where
-      stored : Represents s (record { primary = w .primary; acceptor = w .acceptor; backup = w .backup; learner = put (w .learner) which (withCell t index c); packets = w .packets })
+      after : Boxes
+      after = record {
+        primary = w .primary;
+        acceptor = w .acceptor;
+        backup = w .backup;
+        learner = put (w .learner) which (withCell t index c);
+        packets = w .packets;
+        wanted = w .wanted;
+      }
+
+      stored : Represents s after
       stored =
           let before = h .slots j in
           let next = listening before which c in
@@ -76,6 +88,7 @@ module _ {s : Settings} {w : Boxes} (h : Represents s w) (which : ℕ) where
                 cells-moved (s .instances) cellAt (λ (x : Slot). x .learner) (h .slots) (w .learner) (h .learners) j next which (withCell t index c) c index at (λ _. refl)
                 (cell-there t index c (index-within t index sized (placed-index (s .instances) (theInstance j) index at .1))) (λ n differs. cell-apart t index n c differs);
             told = told-same (h .told) j next (record { promises = λ x m. m; proposes = λ x m. m; votes = λ x m. m }) (λ x m. m);
+            wants = wants-moved (h .wants) j next (λ _ m. m) (h .wants .proposes j) (h .wants .owns j);
             sound = all-sound h j next (listens (h .sound j) which c sound);
             has-place = still-placed h j next (λ _ _. (index, at));
             unopened = unopened-still h j next (λ u. u);
