@@ -7,6 +7,13 @@
  * What the host owes: each pointer refers to as many elements as the length after it says (where the length is 0, the pointer is not null all the
  * same), what is lent to one call does not overlap, and a table is lent to one call at a time. No call can check these.
  *
+ * For agreement it owes more, and no call can check that either:
+ * - all calls have the same settings; each acceptor's number, 0 to M - 1, and each backup's, 1 to 3, is given to one box, and there is one primary;
+ * - all tables begin fresh, and from then on nothing but their own player's calls writes them. None is reset or restored, not after a restart either: an
+ *   acceptor would forget its promises and votes, a primary would use instances again, a backup rounds, and a learner would take back what it said;
+ * - what is handed over is a request, a malformed packet, or a copy of a packet that a call said to send: lost, doubled or late, but not changed.
+ * Nothing is claimed of a run in which a saved table was read back.
+ *
  * Settings, the same in every call of a run: acceptors (M) is 3, 5 or 7; instances (N) is 1 to 1024. A packet is 36 bytes. A value in a table is two
  * numbers: the first eight of its sixteen bytes as one big-endian number, then the last eight.
  */

@@ -5,7 +5,8 @@
  * is lent to one call at a time, and each length is its array's.
  *
  * The tables live as long as the process. An acceptor that ended must not come back with fresh ones, which would have forgotten its promises and
- * votes; nor a primary, which would propose for instances that it has used. This host therefore never restarts a player.
+ * votes; nor a primary, which would propose for instances that it has used; nor a backup, which would propose another value in a round that it has
+ * used; nor a learner, which would say "not yet" of what it reported. This host therefore never restarts a player.
  */
 #define _POSIX_C_SOURCE 200809L
 #include "players.h"
