@@ -1,4 +1,5 @@
 mod Bits
 pub mod Laws
+mod Allowed
 pub mod Voters
 pub mod Senders
