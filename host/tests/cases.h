@@ -11,7 +11,7 @@ enum { M = 3, N = 8 };
 
 static int passed, failed;
 
-static void expect(int holds, const char *what)
+static inline void expect(int holds, const char *what)
 {
     if (holds) {
         passed++;
@@ -21,7 +21,7 @@ static void expect(int holds, const char *what)
     }
 }
 
-static void put_number(uint8_t *bytes, int width, uint32_t number)
+static inline void put_number(uint8_t *bytes, int width, uint32_t number)
 {
     for (int i = width - 1; i >= 0; i--) {
         bytes[i] = (uint8_t)number;
@@ -30,7 +30,7 @@ static void put_number(uint8_t *bytes, int width, uint32_t number)
 }
 
 /* A packet with a value whose last byte is given and whose others are zero. */
-static void make(uint8_t *packet, uint8_t type, uint32_t number, uint32_t instance, uint32_t round, uint32_t vote_round, uint8_t last)
+static inline void make(uint8_t *packet, uint8_t type, uint32_t number, uint32_t instance, uint32_t round, uint32_t vote_round, uint8_t last)
 {
     memset(packet, 0, MYRTHAKEL_PACKET_LENGTH);
     memcpy(packet, "RDE", 3);
@@ -43,14 +43,14 @@ static void make(uint8_t *packet, uint8_t type, uint32_t number, uint32_t instan
     packet[35] = last;
 }
 
-static int is_packet(const uint8_t *packet, uint8_t type, uint32_t number, uint32_t instance, uint32_t round, uint32_t vote_round, uint8_t last)
+static inline int is_packet(const uint8_t *packet, uint8_t type, uint32_t number, uint32_t instance, uint32_t round, uint32_t vote_round, uint8_t last)
 {
     uint8_t wanted[MYRTHAKEL_PACKET_LENGTH];
     make(wanted, type, number, instance, round, vote_round, last);
     return memcmp(packet, wanted, sizeof wanted) == 0;
 }
 
-static int told(void)
+static inline int told(void)
 {
     printf("%d passed, %d failed\n", passed, failed);
     return failed != 0;

@@ -1,1 +1,1 @@
-mod Starred
+mod Computed

@@ -1,0 +1,117 @@
+-- The starred cases, the orders of refusal and the calls that are written out hold: each is computed from the definitions, all with one list of them.
+-- Assumes nothing.
+use mathlib.Core.Path.{refl}
+use lib.Count.{ones}
+use Rattle.numbers.specs.BigEndian.{numberAt}
+use Rattle.basics.specs.Ladder.{if_then_else_, need_or_then_}
+use Rattle.basics.specs.Rounds.{ownerOf, ownedOr0, ownedNot0, rank, atMost}
+use Rattle.basics.specs.Votes.{isVoteUpTo}
+use Rattle.basics.specs.Places.{placed}
+use Rattle.messages.specs.Table.{requestRow, prepareRow, promiseRow, proposeRow, voteRow, tableRow, keepsTable}
+use Rattle.messages.specs.Message.{messageOf, fieldsOf, whenRequest, whenPrepare, whenPromise, whenPropose, whenVote}
+use Rattle.wire.specs.Packet.{fieldsIn, readPacket, packetWith, packetOf}
+use Rattle.player.specs.Step.{afterReading, afterPlacing, ruled, ruleAt, act, step}
+use Rattle.quorum.specs.Settings.{acceptorsAllowed, instancesAllowed, allowed}
+use Rattle.quorum.specs.Quorum.{majority, bit, hasMember, withMember, within, reaches}
+use Rattle.columns.specs.Walks.{cellsFrom, every}
+use Rattle.primary_rule.specs.Rule as primaryRule
+use Rattle.primary.specs.Primary as primary
+use Rattle.acceptor_rule.specs.Rule as acceptorRule
+use Rattle.acceptor_tables.specs.Tables as acceptorTables
+use Rattle.acceptor.specs.Acceptor as acceptor
+use Rattle.backup_cell.specs.Cell as backupCell
+use Rattle.backup_rule.specs.Rule as backupRule
+use Rattle.backup_tables.specs.Tables as backupTables
+use Rattle.backup.specs.Backup as backup
+use Rattle.learner_cell.specs.Cell as learnerCell
+use Rattle.learner_rule.specs.Rule as learnerRule
+use Rattle.learner_tables.specs.Tables as learnerTables
+use Rattle.learner.specs.Learner as learner
+use Rattle.learner_delivery.specs.Delivery.{deliver}
+use Rattle.learner_holes.specs.Holes as holes
+use Rattle.learner_file.specs.File.{header, marked, sameSettings, cellBytes, cellIn, cellsBytes, roundsOf, setsOf, valuesOf}
+use Rattle.learner_saved.specs.Saved.{savedTable, save, readSaved}
+use Rattle.cases.specs.Cases.{cases, All}
+use Rattle.cases.specs.Orders.{Orders}
+use Rattle.cases.specs.WrittenOut.{WrittenOut}
+
+computed : WrittenOut × Orders × All cases
+unfolding ones numberAt if_then_else_ need_or_then_ ownerOf ownedOr0 ownedNot0 rank atMost isVoteUpTo placed requestRow prepareRow promiseRow proposeRow voteRow tableRow
+    keepsTable messageOf fieldsOf whenRequest whenPrepare whenPromise whenPropose whenVote fieldsIn readPacket packetWith packetOf afterReading afterPlacing ruled ruleAt act step
+    acceptorsAllowed instancesAllowed allowed majority bit hasMember withMember within reaches cellsFrom every
+    primaryRule.possible primaryRule.takeRequest primary.isAllowed primary.primary primary.primaryStep primary.primaryByReference primary.primaryRequest
+    acceptorRule.possible acceptorRule.orderOf acceptorRule.obeying acceptorRule.obey acceptorTables.isAllowed acceptor.acceptor acceptor.acceptorStep
+    backupCell.isFresh backupCell.phaseFits backupCell.isStarted backupCell.possible backupRule.nextRound backupRule.start backupRule.counting backupRule.chosen
+    backupRule.whenMajority backupRule.takePromise backupTables.isAllowed backup.backup backup.backupStep backup.backupStart
+    learnerCell.isDecided learnerCell.valueOf learnerCell.isFresh learnerCell.isHeard learnerCell.possible learnerRule.holdOrDecide learnerRule.addVoter learnerRule.countVote
+    learnerTables.isAllowed learner.place learner.rule learner.learner learner.learnerStep learner.answerOfCell learner.answerAt learner.answerFor learner.answered
+    deliver holes.findHole holes.answered header marked sameSettings cellBytes cellIn cellsBytes roundsOf setsOf valuesOf savedTable save readSaved
+computed = (
+  record {
+    acceptor-fresh = refl;
+    backup-fresh = refl;
+    learner-fresh = refl;
+    request-proposed = refl;
+    start-prepares = refl;
+    prepare-promised = refl;
+    promise-held = refl;
+    majority-proposes = refl;
+    tie-keeps-the-first = refl;
+    propose-voted = refl;
+    vote-held = refl;
+    table-saved = refl;
+    table-read = refl;
+    null-refused = refl;
+    best-refused = refl;
+  },
+  refl,
+  (
+    refl,
+    (
+      refl,
+      (
+        refl,
+        (
+          refl,
+          (
+            refl,
+            (
+              refl,
+              (
+                refl,
+                (
+                  refl,
+                  (
+                    refl,
+                    (
+                      refl,
+                      (
+                        refl,
+                        (
+                          refl,
+                          (
+                            refl,
+                            (refl, (refl, (refl, (refl, (refl, (refl, (refl, (refl, (refl, (refl, (refl, (refl, tt)))))))))))),
+                          ),
+                        ),
+                      ),
+                    ),
+                  ),
+                ),
+              ),
+            ),
+          ),
+        ),
+      ),
+    ),
+  ),
+)
+
+writtenOut : WrittenOut
+writtenOut = computed .0
+
+orders : Orders
+orders = computed .1
+
+starred : All cases
+starred = computed .2

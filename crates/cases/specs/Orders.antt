@@ -1,0 +1,311 @@
+-- The orders of refusal as one table: for each call, and each two neighbours in its order, an input that has both faults and is answered by the earlier number.
+-- N = 8, all cells of a table are alike, values are null and packets are for instance 0 unless said. No input has both of 8 and 17, since an instance not below N has no
+-- cell, nor both of the primary's 17 and 12, nor of the learner's 10 and 13: there each has its own row, and another one with the number on the pair's far side. Where M is
+-- 7, 9 is never given, since sender 7 breaks the packet table.
+-- Assumes nothing.
+use Prim.Native.Nat.{ℕ}
+use mathlib.Core.Path.{_≡_}
+use mathlib.Core.List.{List, [], _∷_, _++_, map}
+use lib.ListN.{set, replicate}
+use Rattle.basics.specs.declared.Value.{Value}
+use Rattle.basics.specs.Rounds.{theInstance, theRound, none}
+use Rattle.basics.specs.Values.{theValue, null}
+use Rattle.messages.specs.declared.Message.the-variants.{Request, Promise, Propose, Vote}
+use Rattle.wire.specs.Packet.{packetOf}
+use Rattle.quorum.specs.Settings.{settings}
+use Rattle.primary_rule.specs.Rule as primaryRule
+use Rattle.primary.specs.Primary.{primaryStep, primaryRequest}
+use Rattle.acceptor_tables.specs.Tables as acceptors
+use Rattle.acceptor.specs.Acceptor.{acceptorStep}
+use Rattle.backup_tables.specs.Tables as backups
+use Rattle.backup.specs.Backup.{backupStep, backupStart}
+use Rattle.learner_tables.specs.Tables as learners
+use Rattle.learner.specs.Learner.{learnerStep, answerFor, answered}
+use Rattle.learner_delivery.specs.Delivery.{deliver}
+use Rattle.learner_holes.specs.Holes as holes
+use Rattle.learner_saved.specs.Saved.{save, readSaved}
+
+-- A row: what a call answers, and the number that the paper gives.
+pub record Row : Type 0 where
+  pub answer : ℕ
+  pub number : ℕ
+
+infix 80 _gives_
+abbrev _gives_ : (answer number : ℕ) → Row
+answer gives number = record { answer = answer; number = number }
+
+-- ---- packets
+
+abbrev v : Value
+v = theValue 0 0x2a
+
+abbrev request : List ℕ
+request = packetOf (Request 9 v)
+
+abbrev promise : (sender instance round : ℕ) → List ℕ
+promise sender instance round = packetOf (Promise sender (theInstance instance) (theRound round) none null)
+
+abbrev propose : (instance round : ℕ) → List ℕ
+propose instance round = packetOf (Propose (theInstance instance) (theRound round) null)
+
+abbrev vote : (sender instance round : ℕ) → Value → List ℕ
+vote sender instance round value = packetOf (Vote sender (theInstance instance) (theRound round) value)
+
+-- All that take a packet begin alike. The packet is one that the player takes, the other one is of another kind.
+abbrev reading : (step : (M : ℕ) → (packet : List ℕ) → ℕ) → (M : ℕ) → (packet other : List ℕ) → List Row
+reading step M packet other =
+    -- 7 before 1: M is 4, 37 bytes
+    step 4 (0 ∷ packet) gives 7
+    -- 1 before 2: 37 bytes, the mark from the second on
+    ∷ step M (0 ∷ packet) gives 1
+    -- 2 before 3: another mark, version 2
+    ∷ step M (set (set packet 0 0) 5 2) gives 2
+    -- 3 before 4: version 2, type 5
+    ∷ step M (set (set packet 5 2) 3 5) gives 3
+    -- 4 before 5: type 5, round 4, which is nobody's
+    ∷ step M (set (set packet 3 5) 15 4) gives 4
+    -- 5 before 6: another kind, in round 4
+    ∷ step M (set other 15 4) gives 5
+    ∷ []
+
+-- ---- primary: 7, 1 to 5, 6, 17, 12
+
+abbrev primaryOrder : (step : (next M : ℕ) → (packet : List ℕ) → ℕ) → List Row
+primaryOrder step =
+    reading (step 0) 3 request (vote 0 0 0 null) ++
+    -- 6 before 17: another kind, next above N
+    step 9 3 (vote 0 0 0 null) gives 6
+    -- 6 before 12: another kind, next equals N
+    ∷ step 8 5 (vote 0 0 0 null) gives 6
+    -- 17 and not 12: next above N
+    ∷ step 9 7 request gives 17
+    -- 12 and not 17: next equals N
+    ∷ step 8 7 request gives 12
+    ∷ []
+
+abbrev bySlice : (next M : ℕ) → (packet : List ℕ) → ℕ
+bySlice next M packet = primaryStep (settings M 8) packet (next ∷ []) .answer
+
+abbrev byReference : (next M : ℕ) → (packet : List ℕ) → ℕ
+byReference next M packet = primaryRequest (settings M 8) packet (primaryRule.cell (theInstance next)) .answer
+
+-- ---- acceptor: 7, 1 to 5, 6, 8, 17, 10
+
+abbrev acceptor : (round voteRound M : ℕ) → (packet : List ℕ) → ℕ
+acceptor round voteRound M packet = acceptorStep (settings M 8) 0 packet (acceptors.tables (replicate 8 round) (replicate 8 voteRound) (replicate 16 0)) .answer
+
+abbrev acceptorOrder : List Row
+acceptorOrder =
+    reading (acceptor 0 0) 5 (propose 0 0) (vote 0 0 0 null) ++
+    -- 6 before 8: a vote, instance 8
+    acceptor 0 0 3 (vote 0 8 0 null) gives 6
+    -- 8 before 17: instance 8, a vote round above the round
+    ∷ acceptor 1 5 5 (propose 8 1) gives 8
+    -- 8 before 10: instance 8, a round below
+    ∷ acceptor 5 1 7 (propose 8 1) gives 8
+    -- 17 before 10: a vote round above the round, a round below
+    ∷ acceptor 5 9 7 (propose 0 1) gives 17
+    -- 10: a round below
+    ∷ acceptor 5 1 3 (propose 0 1) gives 10
+    ∷ []
+
+-- ---- backup 1: 7, 1 to 5, 6, 8, 9, 17, 11, 15
+
+-- In round 1, with no vote told of.
+abbrev backupTables : (phase set : ℕ) → backups.Tables
+backupTables phase set =
+    backups.tables (replicate 8 1) (replicate 8 phase) (replicate 8 set) (replicate 8 (none .0)) (replicate 16 0) (replicate 16 0)
+
+abbrev backup : (phase set M : ℕ) → (packet : List ℕ) → ℕ
+backup phase set M packet = backupStep (settings M 8) 1 packet (backupTables phase set) .answer
+
+abbrev backupOrder : List Row
+backupOrder =
+    reading (backup 1 0) 7 (promise 0 0 1) (vote 0 0 0 null) ++
+    -- 6 before 8: a vote, instance 8
+    backup 1 0 3 (vote 0 8 0 null) gives 6
+    -- 8 before 9: instance 8, sender M
+    ∷ backup 1 0 3 (promise 3 8 1) gives 8
+    ∷ backup 1 0 5 (promise 5 8 1) gives 8
+    -- 9 before 17: sender M, phase 3
+    ∷ backup 3 0 3 (promise 3 0 1) gives 9
+    ∷ backup 3 0 5 (promise 5 0 1) gives 9
+    -- 8 before 17: instance 8, phase 3
+    ∷ backup 3 0 7 (promise 6 8 1) gives 8
+    -- 5 and not 9: M is 7, sender 7
+    ∷ backup 3 0 7 (promise 7 8 1) gives 5
+    -- 17 before 11: asking with majority, another round
+    ∷ backup 1 3 3 (promise 2 0 5) gives 17
+    ∷ backup 1 7 5 (promise 4 0 5) gives 17
+    ∷ backup 1 15 7 (promise 6 0 5) gives 17
+    -- 17 before 11: not asking, phase 3
+    ∷ backup 3 1 3 (promise 2 0 1) gives 17
+    -- 11 before 15: another round, sender in the set
+    ∷ backup 1 1 3 (promise 0 0 5) gives 11
+    ∷ backup 1 3 5 (promise 1 0 5) gives 11
+    ∷ backup 1 7 7 (promise 2 0 5) gives 11
+    -- 11 before 15: proposed, sender in the set
+    ∷ backup 2 3 3 (promise 0 0 1) gives 11
+    ∷ backup 2 7 5 (promise 1 0 1) gives 11
+    ∷ backup 2 15 7 (promise 2 0 1) gives 11
+    -- 15: sender in the set
+    ∷ backup 1 7 7 (promise 2 0 1) gives 15
+    ∷ []
+
+-- ---- a start of backup 1: 7, 1, 8, 17, 16
+
+abbrev start : (phase M instance floor length : ℕ) → ℕ
+start phase M instance floor length = backupStart (settings M 8) 1 (theInstance instance) floor null (replicate length 0) (backupTables phase 0) .answer
+
+abbrev startOrder : List Row
+startOrder =
+    -- 7 before 1: M is 4, 35 bytes
+    start 1 4 0 0 35 gives 7
+    -- 1 before 8: 35 bytes, instance 8
+    ∷ start 1 3 8 0 35 gives 1
+    -- 8 before 17: instance 8, phase 3
+    ∷ start 3 5 8 0 36 gives 8
+    -- 8 before 16: instance 8, no round above the floor
+    ∷ start 1 7 8 4_294_967_295 36 gives 8
+    -- 17 before 16: phase 3, no round above the floor
+    ∷ start 3 7 0 4_294_967_295 36 gives 17
+    -- 16: no round above the floor
+    ∷ start 1 7 0 4_294_967_295 36 gives 16
+    ∷ []
+
+-- ---- learner: 7, 1 to 5, 6, 8, 9, 17, 14, 10, 13, 15
+
+-- In round 5; without voters it is impossible.
+abbrev learnerTables : (set : ℕ) → learners.Tables
+learnerTables set = learners.tables (replicate 8 5) (replicate 8 set) (replicate 16 0)
+
+abbrev learner : (set M : ℕ) → (packet : List ℕ) → ℕ
+learner set M packet = learnerStep (settings M 8) packet (learnerTables set) .answer
+
+abbrev learnerOrder : List Row
+learnerOrder =
+    reading (learner 1) 3 (vote 1 0 5 null) (promise 1 0 5) ++
+    -- 6 before 8: a promise, instance 8
+    learner 1 5 (promise 1 8 5) gives 6
+    -- 8 before 9: instance 8, sender M
+    ∷ learner 1 3 (vote 3 8 5 null) gives 8
+    ∷ learner 1 5 (vote 5 8 5 null) gives 8
+    -- 9 before 17: sender M, no voters
+    ∷ learner 0 3 (vote 3 0 5 null) gives 9
+    ∷ learner 0 5 (vote 5 0 5 null) gives 9
+    -- 8 before 17: instance 8, no voters
+    ∷ learner 0 7 (vote 6 8 5 null) gives 8
+    -- 5 and not 9: M is 7, sender 7
+    ∷ learner 0 7 (vote 7 8 5 null) gives 5
+    -- 17 before 14: more voters than majority
+    ∷ learner 7 3 (vote 0 0 5 null) gives 17
+    ∷ learner 15 5 (vote 0 0 5 null) gives 17
+    ∷ learner 31 7 (vote 0 0 5 null) gives 17
+    -- 14 before 10: decided, a round below
+    ∷ learner 3 3 (vote 2 0 1 null) gives 14
+    ∷ learner 7 5 (vote 4 0 1 null) gives 14
+    ∷ learner 15 7 (vote 6 0 1 null) gives 14
+    -- 14 before 13: decided, another value
+    ∷ learner 3 3 (vote 2 0 5 v) gives 14
+    ∷ learner 7 5 (vote 4 0 5 v) gives 14
+    ∷ learner 15 7 (vote 6 0 5 v) gives 14
+    -- 10 and not 13: a round below, another value
+    ∷ learner 1 3 (vote 2 0 1 v) gives 10
+    -- 13 and not 10: the same round, another value
+    ∷ learner 1 3 (vote 2 0 5 v) gives 13
+    -- 10 before 15: a round below, sender in the set
+    ∷ learner 1 3 (vote 0 0 1 null) gives 10
+    ∷ learner 3 5 (vote 1 0 1 null) gives 10
+    ∷ learner 7 7 (vote 2 0 1 null) gives 10
+    -- 13 before 15: another value, sender in the set
+    ∷ learner 1 3 (vote 0 0 5 v) gives 13
+    ∷ learner 3 5 (vote 1 0 5 v) gives 13
+    ∷ learner 7 7 (vote 2 0 5 v) gives 13
+    -- 15: sender in the set
+    ∷ learner 7 7 (vote 2 0 5 null) gives 15
+    ∷ []
+
+-- ---- answer for an instance: 7, 8, 17
+
+abbrev answer : (set M instance : ℕ) → ℕ
+answer set M instance = answered null (answerFor (settings M 8) (theInstance instance) (learnerTables set)) .answer
+
+abbrev answerOrder : List Row
+answerOrder =
+    -- 7 before 8: M is 4, instance 8
+    answer 1 4 8 gives 7
+    -- 8 before 17: instance 8, no voters
+    ∷ answer 0 5 8 gives 8
+    -- 17: no voters
+    ∷ answer 0 7 0 gives 17
+    ∷ []
+
+-- ---- delivery: 7, 1, 17; holes: 7, 17; saving: 7, 1, 17
+
+abbrev delivery : (set M length : ℕ) → ℕ
+delivery set M length = deliver (settings M 8) (learnerTables set) (replicate length 0) 0 .answer
+
+abbrev hole : (set M : ℕ) → ℕ
+hole set M = holes.answered 0 (holes.findHole (settings M 8) (learnerTables set)) .answer
+
+abbrev saving : (set M length : ℕ) → ℕ
+saving set M length = save (settings M 8) (replicate length 0) (learnerTables set) .answer
+
+abbrev walkOrders : List Row
+walkOrders =
+    -- delivery, 7 before 1: M is 4, 127 bytes
+    delivery 1 4 127 gives 7
+    -- delivery, 1 before 17: 127 bytes, no voters
+    ∷ delivery 0 5 127 gives 1
+    -- delivery, 17: no voters
+    ∷ delivery 0 7 128 gives 17
+    -- holes, 7 before 17: M is 4, no voters
+    ∷ hole 0 4 gives 7
+    -- holes, 17: no voters
+    ∷ hole 0 5 gives 17
+    -- saving, 7 before 1: M is 4, 175 bytes
+    ∷ saving 1 4 175 gives 7
+    -- saving, 1 before 17: 175 bytes, no voters
+    ∷ saving 0 5 175 gives 1
+    -- saving, 17: no voters
+    ∷ saving 0 7 176 gives 17
+    ∷ []
+
+-- ---- reading a saved table: 7 for the lent table, 1 if under 8 bytes, 2, 3, 7, 1 for the whole length, 17
+
+-- A header for M = 5 and N = 8, and cells of round 0 without voters.
+abbrev saved : List ℕ
+saved = 82 ∷ 68 ∷ 84 ∷ 0 ∷ 1 ∷ 5 ∷ 0 ∷ 8 ∷ replicate 168 0
+
+abbrev readingBack : (M : ℕ) → (saved : List ℕ) → ℕ
+readingBack M saved = readSaved (settings M 8) saved (learnerTables 1) .answer
+
+abbrev readingBackOrder : List Row
+readingBackOrder =
+    -- 7 before 1: M is 4, 7 bytes
+    readingBack 4 (replicate 7 0) gives 7
+    -- 1 before 2: 7 bytes, another mark
+    ∷ readingBack 5 (replicate 7 0) gives 1
+    -- 2 before 3: another mark, version 2
+    ∷ readingBack 5 (set (set saved 0 0) 4 2) gives 2
+    -- 3 before 7: version 2, M saved is 7
+    ∷ readingBack 5 (set (set saved 4 2) 5 7) gives 3
+    -- 7 before 1: M saved is 7, 177 bytes
+    ∷ readingBack 5 (set saved 5 7 ++ 0 ∷ []) gives 7
+    -- 7 before 1: N saved is 9, 177 bytes
+    ∷ readingBack 5 (set saved 7 9 ++ 0 ∷ []) gives 7
+    -- 1 before 17: 177 bytes, no voters
+    ∷ readingBack 5 (saved ++ 0 ∷ []) gives 1
+    -- 17: no voters
+    ∷ readingBack 5 saved gives 17
+    ∷ []
+
+-- ---- all of them
+
+abbrev pub rows : List Row
+rows =
+    primaryOrder bySlice ++ primaryOrder byReference ++ acceptorOrder ++ backupOrder ++ startOrder ++ learnerOrder ++ answerOrder ++ walkOrders ++ readingBackOrder
+
+-- Each call answers the paper's number.
+abbrev pub Orders : Type 0
+Orders = map (λ row. row .answer) rows ≡ map (λ row. row .number) rows

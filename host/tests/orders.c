@@ -1,0 +1,386 @@
+/*
+ * The orders of refusal as a C program meets them, row by row as in crates/cases/specs/Orders.antt: an input that has two faults is answered by the number
+ * that comes first, and is left as it came. N = 8, all cells of a table are alike, and values are null unless said.
+ */
+#include "cases.h"
+
+/* What the call at hand was lent, to be compared with what it leaves. */
+typedef struct {
+    uint8_t bytes[8 + 21 * N + 1];
+    size_t length;
+} buffer;
+
+static const char *call;
+
+static void row(const char *faults, uint32_t answer, uint32_t number)
+{
+    char what[160];
+    snprintf(what, sizeof what, "%s, %s, answered by %u", call, faults, (unsigned)answer);
+    expect(answer == number, what);
+}
+
+/* A refusal leaves what was lent as it came: a call that does not is answered by 0 here. */
+static uint32_t unless_changed(uint32_t answer, const void *before, const void *after, size_t size)
+{
+    return memcmp(before, after, size) == 0 ? answer : 0;
+}
+
+/* Packets. */
+
+static buffer packet(uint8_t type, uint32_t number, uint32_t instance, uint32_t round, uint32_t vote_round, uint8_t last)
+{
+    buffer p = {{0}, MYRTHAKEL_PACKET_LENGTH};
+    make(p.bytes, type, number, instance, round, vote_round, last);
+    return p;
+}
+
+static buffer request(void) { return packet(0, 9, 0, 0, MYRTHAKEL_NONE, 0x2a); }
+static buffer promise(uint32_t sender, uint32_t instance, uint32_t round) { return packet(2, sender, instance, round, MYRTHAKEL_NONE, 0); }
+static buffer propose(uint32_t instance, uint32_t round) { return packet(3, round % 4, instance, round, MYRTHAKEL_NONE, 0); }
+static buffer vote(uint32_t sender, uint32_t instance, uint32_t round, uint8_t last) { return packet(4, sender, instance, round, round, last); }
+
+static buffer set(buffer p, size_t at, uint8_t byte)
+{
+    p.bytes[at] = byte;
+    return p;
+}
+
+/* With a zero before it. */
+static buffer shifted(buffer p)
+{
+    memmove(p.bytes + 1, p.bytes, p.length);
+    p.bytes[0] = 0;
+    p.length++;
+    return p;
+}
+
+/* With a zero behind it. */
+static buffer longer(buffer p)
+{
+    p.bytes[p.length++] = 0;
+    return p;
+}
+
+static buffer zeros(size_t length)
+{
+    buffer b = {{0}, length};
+    return b;
+}
+
+/* All calls that take a packet begin alike. The packet is one that the player takes, the other one is of another kind. */
+typedef uint32_t step(uint32_t acceptors, buffer packet);
+
+static void reading(step *give, uint32_t acceptors, buffer p, buffer other)
+{
+    row("7 before 1: M is 4, 37 bytes", give(4, shifted(p)), 7);
+    row("1 before 2: 37 bytes, the mark from the second on", give(acceptors, shifted(p)), 1);
+    row("2 before 3: another mark, version 2", give(acceptors, set(set(p, 0, 0), 5, 2)), 2);
+    row("3 before 4: version 2, type 5", give(acceptors, set(set(p, 5, 2), 3, 5)), 3);
+    row("4 before 5: type 5, round 4, which is nobody's", give(acceptors, set(set(p, 3, 5), 15, 4)), 4);
+    row("5 before 6: another kind, in round 4", give(acceptors, set(other, 15, 4)), 5);
+}
+
+/* The primary, by a slice and by reference. */
+
+typedef uint32_t primary_call(uint32_t next, uint32_t acceptors, buffer packet);
+
+static uint32_t by_slice(uint32_t next, uint32_t acceptors, buffer p)
+{
+    buffer lent = p;
+    uint32_t record = next, answer = myrthakel_primary_step(acceptors, N, lent.bytes, lent.length, &record, 1);
+    return record == next ? unless_changed(answer, p.bytes, lent.bytes, sizeof p.bytes) : 0;
+}
+
+static uint32_t by_reference(uint32_t next, uint32_t acceptors, buffer p)
+{
+    buffer lent = p;
+    struct myrthakel_primary record = {next};
+    uint32_t answer = myrthakel_primary_request(acceptors, N, lent.bytes, lent.length, &record);
+    return record.next == next ? unless_changed(answer, p.bytes, lent.bytes, sizeof p.bytes) : 0;
+}
+
+static uint32_t fresh_by_slice(uint32_t acceptors, buffer p) { return by_slice(0, acceptors, p); }
+static uint32_t fresh_by_reference(uint32_t acceptors, buffer p) { return by_reference(0, acceptors, p); }
+
+static void primary_order(primary_call *give, step *give_fresh)
+{
+    reading(give_fresh, 3, request(), vote(0, 0, 0, 0));
+    row("6 before 17: another kind, next above N", give(9, 3, vote(0, 0, 0, 0)), 6);
+    row("6 before 12: another kind, next equals N", give(8, 5, vote(0, 0, 0, 0)), 6);
+    row("17 and not 12: next above N", give(9, 7, request()), 17);
+    row("12 and not 17: next equals N", give(8, 7, request()), 12);
+}
+
+/* Acceptor 0. */
+
+static uint32_t acceptor(uint32_t round, uint32_t vote_round, uint32_t acceptors, buffer p)
+{
+    struct {
+        buffer packet;
+        uint32_t rounds[N], vote_rounds[N];
+        uint64_t values[2 * N];
+    } before = {0}, lent;
+    before.packet = p;
+    for (int i = 0; i < N; i++) {
+        before.rounds[i] = round;
+        before.vote_rounds[i] = vote_round;
+    }
+    memcpy(&lent, &before, sizeof lent);
+    uint32_t answer = myrthakel_acceptor_step(acceptors, N, 0, lent.packet.bytes, p.length, lent.rounds, N, lent.vote_rounds, N, lent.values, 2 * N);
+    return unless_changed(answer, &before, &lent, sizeof lent);
+}
+
+static uint32_t fresh_acceptor(uint32_t acceptors, buffer p) { return acceptor(0, 0, acceptors, p); }
+
+static void acceptor_order(void)
+{
+    reading(fresh_acceptor, 5, propose(0, 0), vote(0, 0, 0, 0));
+    row("6 before 8: a vote, instance 8", acceptor(0, 0, 3, vote(0, 8, 0, 0)), 6);
+    row("8 before 17: instance 8, a vote round above the round", acceptor(1, 5, 5, propose(8, 1)), 8);
+    row("8 before 10: instance 8, a round below", acceptor(5, 1, 7, propose(8, 1)), 8);
+    row("17 before 10: a vote round above the round, a round below", acceptor(5, 9, 7, propose(0, 1)), 17);
+    row("10: a round below", acceptor(5, 1, 3, propose(0, 1)), 10);
+}
+
+/* Backup 1, in round 1, with no vote told of. */
+
+typedef struct {
+    buffer packet;
+    uint32_t rounds[N], best_vote_rounds[N];
+    uint8_t phases[N], sets[N];
+    uint64_t best_values[2 * N], own_values[2 * N];
+} lent_to_backup;
+
+static void lend_to_backup(lent_to_backup *b, buffer p, uint8_t phase, uint8_t set)
+{
+    memset(b, 0, sizeof *b);
+    b->packet = p;
+    for (int i = 0; i < N; i++) {
+        b->rounds[i] = 1;
+        b->phases[i] = phase;
+        b->sets[i] = set;
+        b->best_vote_rounds[i] = MYRTHAKEL_NONE;
+    }
+}
+
+static uint32_t backup(uint8_t phase, uint8_t set, uint32_t acceptors, buffer p)
+{
+    lent_to_backup before, b;
+    lend_to_backup(&before, p, phase, set);
+    memcpy(&b, &before, sizeof b);
+    uint32_t answer = myrthakel_backup_step(acceptors, N, 1, b.packet.bytes, p.length, b.rounds, N, b.phases, N, b.sets, N,
+                                            b.best_vote_rounds, N, b.best_values, 2 * N, b.own_values, 2 * N);
+    return unless_changed(answer, &before, &b, sizeof b);
+}
+
+static uint32_t asking_backup(uint32_t acceptors, buffer p) { return backup(1, 0, acceptors, p); }
+
+static void backup_order(void)
+{
+    reading(asking_backup, 7, promise(0, 0, 1), vote(0, 0, 0, 0));
+    row("6 before 8: a vote, instance 8", backup(1, 0, 3, vote(0, 8, 0, 0)), 6);
+    row("8 before 9: instance 8, sender M", backup(1, 0, 3, promise(3, 8, 1)), 8);
+    row("8 before 9: instance 8, sender M", backup(1, 0, 5, promise(5, 8, 1)), 8);
+    row("9 before 17: sender M, phase 3", backup(3, 0, 3, promise(3, 0, 1)), 9);
+    row("9 before 17: sender M, phase 3", backup(3, 0, 5, promise(5, 0, 1)), 9);
+    row("8 before 17: instance 8, phase 3", backup(3, 0, 7, promise(6, 8, 1)), 8);
+    row("5 and not 9: M is 7, sender 7", backup(3, 0, 7, promise(7, 8, 1)), 5);
+    row("17 before 11: asking with majority, another round", backup(1, 3, 3, promise(2, 0, 5)), 17);
+    row("17 before 11: asking with majority, another round", backup(1, 7, 5, promise(4, 0, 5)), 17);
+    row("17 before 11: asking with majority, another round", backup(1, 15, 7, promise(6, 0, 5)), 17);
+    row("17 before 11: not asking, phase 3", backup(3, 1, 3, promise(2, 0, 1)), 17);
+    row("11 before 15: another round, sender in the set", backup(1, 1, 3, promise(0, 0, 5)), 11);
+    row("11 before 15: another round, sender in the set", backup(1, 3, 5, promise(1, 0, 5)), 11);
+    row("11 before 15: another round, sender in the set", backup(1, 7, 7, promise(2, 0, 5)), 11);
+    row("11 before 15: proposed, sender in the set", backup(2, 3, 3, promise(0, 0, 1)), 11);
+    row("11 before 15: proposed, sender in the set", backup(2, 7, 5, promise(1, 0, 1)), 11);
+    row("11 before 15: proposed, sender in the set", backup(2, 15, 7, promise(2, 0, 1)), 11);
+    row("15: sender in the set", backup(1, 7, 7, promise(2, 0, 1)), 15);
+}
+
+static uint32_t start(uint8_t phase, uint32_t acceptors, uint32_t instance, uint32_t floor, size_t length)
+{
+    lent_to_backup before, b;
+    lend_to_backup(&before, zeros(length), phase, 0);
+    memcpy(&b, &before, sizeof b);
+    uint32_t answer = myrthakel_backup_start(acceptors, N, 1, instance, floor, 0, 0, b.packet.bytes, length, b.rounds, N, b.phases, N, b.sets, N,
+                                             b.best_vote_rounds, N, b.best_values, 2 * N, b.own_values, 2 * N);
+    return unless_changed(answer, &before, &b, sizeof b);
+}
+
+static void start_order(void)
+{
+    row("7 before 1: M is 4, 35 bytes", start(1, 4, 0, 0, 35), 7);
+    row("1 before 8: 35 bytes, instance 8", start(1, 3, 8, 0, 35), 1);
+    row("8 before 17: instance 8, phase 3", start(3, 5, 8, 0, 36), 8);
+    row("8 before 16: instance 8, no round above the floor", start(1, 7, 8, UINT32_C(4294967295), 36), 8);
+    row("17 before 16: phase 3, no round above the floor", start(3, 7, 0, UINT32_C(4294967295), 36), 17);
+    row("16: no round above the floor", start(1, 7, 0, UINT32_C(4294967295), 36), 16);
+}
+
+/* The learner, in round 5; without voters its cells are impossible. */
+
+typedef struct {
+    buffer bytes;
+    uint32_t rounds[N];
+    uint8_t sets[N];
+    uint64_t values[2 * N];
+} lent_to_learner;
+
+static void lend_to_learner(lent_to_learner *l, buffer bytes, uint8_t set)
+{
+    memset(l, 0, sizeof *l);
+    l->bytes = bytes;
+    for (int i = 0; i < N; i++) {
+        l->rounds[i] = 5;
+        l->sets[i] = set;
+    }
+}
+
+static uint32_t learner(uint8_t set, uint32_t acceptors, buffer p)
+{
+    lent_to_learner before, l;
+    lend_to_learner(&before, p, set);
+    memcpy(&l, &before, sizeof l);
+    uint32_t answer = myrthakel_learner_step(acceptors, N, l.bytes.bytes, p.length, l.rounds, N, l.sets, N, l.values, 2 * N);
+    return unless_changed(answer, &before, &l, sizeof l);
+}
+
+static uint32_t hearing_learner(uint32_t acceptors, buffer p) { return learner(1, acceptors, p); }
+
+static void learner_order(void)
+{
+    reading(hearing_learner, 3, vote(1, 0, 5, 0), promise(1, 0, 5));
+    row("6 before 8: a promise, instance 8", learner(1, 5, promise(1, 8, 5)), 6);
+    row("8 before 9: instance 8, sender M", learner(1, 3, vote(3, 8, 5, 0)), 8);
+    row("8 before 9: instance 8, sender M", learner(1, 5, vote(5, 8, 5, 0)), 8);
+    row("9 before 17: sender M, no voters", learner(0, 3, vote(3, 0, 5, 0)), 9);
+    row("9 before 17: sender M, no voters", learner(0, 5, vote(5, 0, 5, 0)), 9);
+    row("8 before 17: instance 8, no voters", learner(0, 7, vote(6, 8, 5, 0)), 8);
+    row("5 and not 9: M is 7, sender 7", learner(0, 7, vote(7, 8, 5, 0)), 5);
+    row("17 before 14: more voters than majority", learner(7, 3, vote(0, 0, 5, 0)), 17);
+    row("17 before 14: more voters than majority", learner(15, 5, vote(0, 0, 5, 0)), 17);
+    row("17 before 14: more voters than majority", learner(31, 7, vote(0, 0, 5, 0)), 17);
+    row("14 before 10: decided, a round below", learner(3, 3, vote(2, 0, 1, 0)), 14);
+    row("14 before 10: decided, a round below", learner(7, 5, vote(4, 0, 1, 0)), 14);
+    row("14 before 10: decided, a round below", learner(15, 7, vote(6, 0, 1, 0)), 14);
+    row("14 before 13: decided, another value", learner(3, 3, vote(2, 0, 5, 0x2a)), 14);
+    row("14 before 13: decided, another value", learner(7, 5, vote(4, 0, 5, 0x2a)), 14);
+    row("14 before 13: decided, another value", learner(15, 7, vote(6, 0, 5, 0x2a)), 14);
+    row("10 and not 13: a round below, another value", learner(1, 3, vote(2, 0, 1, 0x2a)), 10);
+    row("13 and not 10: the same round, another value", learner(1, 3, vote(2, 0, 5, 0x2a)), 13);
+    row("10 before 15: a round below, sender in the set", learner(1, 3, vote(0, 0, 1, 0)), 10);
+    row("10 before 15: a round below, sender in the set", learner(3, 5, vote(1, 0, 1, 0)), 10);
+    row("10 before 15: a round below, sender in the set", learner(7, 7, vote(2, 0, 1, 0)), 10);
+    row("13 before 15: another value, sender in the set", learner(1, 3, vote(0, 0, 5, 0x2a)), 13);
+    row("13 before 15: another value, sender in the set", learner(3, 5, vote(1, 0, 5, 0x2a)), 13);
+    row("13 before 15: another value, sender in the set", learner(7, 7, vote(2, 0, 5, 0x2a)), 13);
+    row("15: sender in the set", learner(7, 7, vote(2, 0, 5, 0)), 15);
+}
+
+static uint32_t answer(uint8_t set, uint32_t acceptors, uint32_t instance)
+{
+    lent_to_learner l;
+    uint64_t before[2] = {1, 2}, lent[2] = {1, 2};
+    lend_to_learner(&l, zeros(0), set);
+    uint32_t answered = myrthakel_learner_answer(acceptors, N, instance, l.rounds, N, l.sets, N, l.values, 2 * N, &lent[0], &lent[1]);
+    return unless_changed(answered, before, lent, sizeof lent);
+}
+
+static void answer_order(void)
+{
+    row("7 before 8: M is 4, instance 8", answer(1, 4, 8), 7);
+    row("8 before 17: instance 8, no voters", answer(0, 5, 8), 8);
+    row("17: no voters", answer(0, 7, 0), 17);
+}
+
+static uint32_t delivery(uint8_t set, uint32_t acceptors, size_t length)
+{
+    lent_to_learner before, l;
+    uint32_t count = 99;
+    lend_to_learner(&before, zeros(length), set);
+    memcpy(&l, &before, sizeof l);
+    uint32_t answered = myrthakel_learner_deliver(acceptors, N, l.rounds, N, l.sets, N, l.values, 2 * N, l.bytes.bytes, length, &count);
+    return count == 99 ? unless_changed(answered, &before, &l, sizeof l) : 0;
+}
+
+static uint32_t hole(uint8_t set, uint32_t acceptors)
+{
+    lent_to_learner l;
+    uint32_t before = 99, lent = 99;
+    lend_to_learner(&l, zeros(0), set);
+    uint32_t answered = myrthakel_learner_first_hole(acceptors, N, l.rounds, N, l.sets, N, l.values, 2 * N, &lent);
+    return unless_changed(answered, &before, &lent, sizeof lent);
+}
+
+static uint32_t saving(uint8_t set, uint32_t acceptors, size_t length)
+{
+    lent_to_learner before, l;
+    lend_to_learner(&before, zeros(length), set);
+    memcpy(&l, &before, sizeof l);
+    uint32_t answered = myrthakel_learner_save(acceptors, N, l.rounds, N, l.sets, N, l.values, 2 * N, l.bytes.bytes, length);
+    return unless_changed(answered, &before, &l, sizeof l);
+}
+
+static void walk_orders(void)
+{
+    row("delivery, 7 before 1: M is 4, 127 bytes", delivery(1, 4, 127), 7);
+    row("delivery, 1 before 17: 127 bytes, no voters", delivery(0, 5, 127), 1);
+    row("delivery, 17: no voters", delivery(0, 7, 128), 17);
+    row("holes, 7 before 17: M is 4, no voters", hole(0, 4), 7);
+    row("holes, 17: no voters", hole(0, 5), 17);
+    row("saving, 7 before 1: M is 4, 175 bytes", saving(1, 4, 175), 7);
+    row("saving, 1 before 17: 175 bytes, no voters", saving(0, 5, 175), 1);
+    row("saving, 17: no voters", saving(0, 7, 176), 17);
+}
+
+/* A header for M = 5 and N = 8, and cells of round 0 without voters. */
+static buffer saved(void)
+{
+    buffer b = {{'R', 'D', 'T', 0, 1, 5, 0, 8}, 176};
+    return b;
+}
+
+static uint32_t reading_back(uint32_t acceptors, buffer bytes)
+{
+    lent_to_learner before, l;
+    lend_to_learner(&before, bytes, 1);
+    memcpy(&l, &before, sizeof l);
+    uint32_t answered = myrthakel_learner_read_saved(acceptors, N, l.bytes.bytes, bytes.length, l.rounds, N, l.sets, N, l.values, 2 * N);
+    return unless_changed(answered, &before, &l, sizeof l);
+}
+
+static void reading_back_order(void)
+{
+    row("7 before 1: M is 4, 7 bytes", reading_back(4, zeros(7)), 7);
+    row("1 before 2: 7 bytes, another mark", reading_back(5, zeros(7)), 1);
+    row("2 before 3: another mark, version 2", reading_back(5, set(set(saved(), 0, 0), 4, 2)), 2);
+    row("3 before 7: version 2, M saved is 7", reading_back(5, set(set(saved(), 4, 2), 5, 7)), 3);
+    row("7 before 1: M saved is 7, 177 bytes", reading_back(5, longer(set(saved(), 5, 7))), 7);
+    row("7 before 1: N saved is 9, 177 bytes", reading_back(5, longer(set(saved(), 7, 9))), 7);
+    row("1 before 17: 177 bytes, no voters", reading_back(5, longer(saved())), 1);
+    row("17: no voters", reading_back(5, saved()), 17);
+}
+
+int main(void)
+{
+    call = "primary by a slice";
+    primary_order(by_slice, fresh_by_slice);
+    call = "primary by reference";
+    primary_order(by_reference, fresh_by_reference);
+    call = "acceptor";
+    acceptor_order();
+    call = "backup";
+    backup_order();
+    call = "start";
+    start_order();
+    call = "learner";
+    learner_order();
+    call = "answer";
+    answer_order();
+    call = "walks";
+    walk_orders();
+    call = "reading back";
+    reading_back_order();
+    return told();
+}

@@ -1,0 +1,129 @@
+/*
+ * Calls whose packets, tables and answers are all written out in numbers, as in crates/cases/specs/WrittenOut.antt. M = 3, N = 2, instance 1, and the value has the
+ * bytes 1 to 16. Backup 1's round is 16,909,061, which has the bytes 1, 2, 3, 5.
+ */
+#include "cases.h"
+
+/* Mark, type, version, switch number; instance; round; vote round; value. */
+#define VALUE 1, 2, 3, 4, 5, 6, 7, 8, 9, 10, 11, 12, 13, 14, 15, 16
+static const uint8_t request[36] = {82, 68, 69, 0, 0, 1, 0, 9, 0, 0, 0, 0, 0, 0, 0, 0, 255, 255, 255, 255, VALUE};
+static const uint8_t null_request[36] = {82, 68, 69, 0, 0, 1, 0, 9, 0, 0, 0, 0, 0, 0, 0, 0, 255, 255, 255, 255, 0};
+static const uint8_t prepare[36] = {82, 68, 69, 1, 0, 1, 0, 1, 0, 0, 0, 1, 1, 2, 3, 5, 255, 255, 255, 255, 0};
+static const uint8_t promise_of_none[36] = {82, 68, 69, 2, 0, 1, 0, 2, 0, 0, 0, 1, 1, 2, 3, 5, 255, 255, 255, 255, 0};
+static const uint8_t promise_of_vote[36] = {82, 68, 69, 2, 0, 1, 0, 0, 0, 0, 0, 1, 1, 2, 3, 5, 0, 0, 0, 0, VALUE};
+static const uint8_t promise_of_tie[36] = {82, 68, 69, 2, 0, 1, 0, 2, 0, 0, 0, 1, 1, 2, 3, 5, 0, 0, 0, 0, 16, 15, 14, 13, 12, 11, 10, 9, 8, 7, 6, 5, 4, 3, 2, 1};
+static const uint8_t propose_of_primary[36] = {82, 68, 69, 3, 0, 1, 0, 0, 0, 0, 0, 1, 0, 0, 0, 0, 255, 255, 255, 255, VALUE};
+static const uint8_t propose_of_backup[36] = {82, 68, 69, 3, 0, 1, 0, 1, 0, 0, 0, 1, 1, 2, 3, 5, 255, 255, 255, 255, VALUE};
+static const uint8_t vote[36] = {82, 68, 69, 4, 0, 1, 0, 2, 0, 0, 0, 1, 1, 2, 3, 5, 1, 2, 3, 5, VALUE};
+
+/* Mark, version, M, N; then for each cell its round, set and value. */
+static const uint8_t saved[50] = {82, 68, 84, 0, 1, 3, 0, 2, 255, 255, 255, 255, 0, 0, 0, 0, 0, 0, 0, 0, 0, 0, 0, 0, 0, 0, 0, 0, 0, 1, 2, 3, 5, 4, VALUE};
+
+/* Tables, whose cell 0 is fresh. A value is two numbers, of the bytes 1 to 8 and 9 to 16. */
+#define VALUES {0, 0, UINT64_C(0x0102030405060708), UINT64_C(0x090a0b0c0d0e0f10)}
+
+typedef struct {
+    uint32_t rounds[2], vote_rounds[2];
+    uint64_t values[4];
+} acceptor;
+
+static const acceptor never_voted = {{0, 0}, {4294967295, 4294967295}, {0}};
+static const acceptor promised = {{0, 16909061}, {4294967295, 4294967295}, {0}};
+static const acceptor voted = {{0, 16909061}, {4294967295, 16909061}, VALUES};
+
+/* The phases are 0 idle, 1 asking, 2 proposed. */
+typedef struct {
+    uint32_t rounds[2];
+    uint8_t phases[2], sets[2];
+    uint32_t best_vote_rounds[2];
+    uint64_t best_values[4], own_values[4];
+} backup;
+
+static const backup idle = {{0, 0}, {0, 0}, {0, 0}, {4294967295, 4294967295}, {0}, {0}};
+static const backup asking = {{0, 16909061}, {0, 1}, {0, 0}, {4294967295, 4294967295}, {0}, {0, 0, 7, 8}};
+static const backup told_of_vote = {{0, 16909061}, {0, 1}, {0, 1}, {4294967295, 0}, VALUES, {0, 0, 7, 8}};
+static const backup proposed = {{0, 16909061}, {0, 2}, {0, 5}, {4294967295, 0}, VALUES, {0, 0, 7, 8}};
+static const backup best_of_empty_set = {{0, 16909061}, {0, 1}, {0, 0}, {4294967295, 0}, VALUES, {0, 0, 7, 8}};
+
+typedef struct {
+    uint32_t rounds[2];
+    uint8_t sets[2];
+    uint64_t values[4];
+} learner;
+
+static const learner unheard = {{4294967295, 4294967295}, {0, 0}, {0}};
+static const learner heard = {{4294967295, 16909061}, {0, 4}, VALUES};
+
+static void primary_is(const uint8_t *given, uint32_t next, uint32_t answer, const uint8_t *left, uint32_t next_left, const char *what)
+{
+    uint8_t packet[36];
+    memcpy(packet, given, 36);
+    expect(myrthakel_primary_step(3, 2, packet, 36, &next, 1) == answer && memcmp(packet, left, 36) == 0 && next == next_left, what);
+}
+
+static void acceptor_is(const uint8_t *given, const acceptor *before, uint32_t answer, const uint8_t *left, const acceptor *after, const char *what)
+{
+    uint8_t packet[36];
+    acceptor a = *before;
+    memcpy(packet, given, 36);
+    expect(myrthakel_acceptor_step(3, 2, 2, packet, 36, a.rounds, 2, a.vote_rounds, 2, a.values, 4) == answer && memcmp(packet, left, 36) == 0
+               && memcmp(&a, after, sizeof a) == 0,
+           what);
+}
+
+static int is_backup(const backup *b, const backup *wanted)
+{
+    return memcmp(b->rounds, wanted->rounds, sizeof b->rounds) == 0 && memcmp(b->phases, wanted->phases, sizeof b->phases) == 0
+           && memcmp(b->sets, wanted->sets, sizeof b->sets) == 0 && memcmp(b->best_vote_rounds, wanted->best_vote_rounds, sizeof b->best_vote_rounds) == 0
+           && memcmp(b->best_values, wanted->best_values, sizeof b->best_values) == 0 && memcmp(b->own_values, wanted->own_values, sizeof b->own_values) == 0;
+}
+
+static void backup_is(const uint8_t *given, const backup *before, uint32_t answer, const uint8_t *left, const backup *after, const char *what)
+{
+    uint8_t packet[36];
+    backup b = *before;
+    memcpy(packet, given, 36);
+    expect(myrthakel_backup_step(3, 2, 1, packet, 36, b.rounds, 2, b.phases, 2, b.sets, 2, b.best_vote_rounds, 2, b.best_values, 4, b.own_values, 4) == answer
+               && memcmp(packet, left, 36) == 0 && is_backup(&b, after),
+           what);
+}
+
+static void start_is_asking(void)
+{
+    uint8_t packet[36] = {0};
+    backup b = idle;
+    expect(myrthakel_backup_start(3, 2, 1, 1, 16909060, 7, 8, packet, 36, b.rounds, 2, b.phases, 2, b.sets, 2, b.best_vote_rounds, 2, b.best_values, 4, b.own_values, 4) == 101
+               && memcmp(packet, prepare, 36) == 0 && is_backup(&b, &asking),
+           "a start writes a prepare, and asks");
+}
+
+static int is_learner(const learner *l, const learner *wanted)
+{
+    return memcmp(l->rounds, wanted->rounds, sizeof l->rounds) == 0 && memcmp(l->sets, wanted->sets, sizeof l->sets) == 0
+           && memcmp(l->values, wanted->values, sizeof l->values) == 0;
+}
+
+static void learner_cases(void)
+{
+    uint8_t buffer[50] = {0};
+    learner l = unheard;
+    expect(myrthakel_learner_step(3, 2, vote, 36, l.rounds, 2, l.sets, 2, l.values, 4) == 104 && is_learner(&l, &heard), "a vote is held");
+    expect(myrthakel_learner_save(3, 2, l.rounds, 2, l.sets, 2, l.values, 4, buffer, 50) == 106 && memcmp(buffer, saved, 50) == 0, "a table is saved as these bytes");
+    l = unheard;
+    expect(myrthakel_learner_read_saved(3, 2, saved, 50, l.rounds, 2, l.sets, 2, l.values, 4) == 106 && is_learner(&l, &heard), "and these bytes are read as that table");
+}
+
+int main(void)
+{
+    primary_is(request, 1, 101, propose_of_primary, 2, "a request is proposed");
+    primary_is(null_request, 1, 5, null_request, 1, "a null request is refused by 5");
+    acceptor_is(prepare, &never_voted, 102, promise_of_none, &promised, "a prepare is promised");
+    acceptor_is(propose_of_backup, &promised, 103, vote, &voted, "a propose is voted for");
+    start_is_asking();
+    backup_is(promise_of_vote, &asking, 104, promise_of_vote, &told_of_vote, "a promise is held");
+    backup_is(promise_of_none, &told_of_vote, 101, propose_of_backup, &proposed, "a majority proposes");
+    backup_is(promise_of_tie, &told_of_vote, 101, propose_of_backup, &proposed, "of two equal vote rounds the first stays the best");
+    backup_is(promise_of_none, &best_of_empty_set, 17, promise_of_none, &best_of_empty_set, "a best vote that nobody told is refused by 17");
+    learner_cases();
+    return told();
+}
