@@ -136,6 +136,7 @@ static void acceptor_order(void)
 {
     reading(fresh_acceptor, 5, propose(0, 0), vote(0, 0, 0, 0));
     row("6 before 8: a vote, instance 8", acceptor(0, 0, 3, vote(0, 8, 0, 0)), 6);
+    row("6 before 17: a vote, a vote round above the round", acceptor(1, 5, 5, vote(0, 0, 0, 0)), 6);
     row("8 before 17: instance 8, a vote round above the round", acceptor(1, 5, 5, propose(8, 1)), 8);
     row("8 before 10: instance 8, a round below", acceptor(5, 1, 7, propose(8, 1)), 8);
     row("17 before 10: a vote round above the round, a round below", acceptor(5, 9, 7, propose(0, 1)), 17);
@@ -179,6 +180,7 @@ static void backup_order(void)
 {
     reading(asking_backup, 7, promise(0, 0, 1), vote(0, 0, 0, 0));
     row("6 before 8: a vote, instance 8", backup(1, 0, 3, vote(0, 8, 0, 0)), 6);
+    row("6 before 17: a vote, phase 3", backup(3, 0, 7, vote(0, 0, 0, 0)), 6);
     row("8 before 9: instance 8, sender M", backup(1, 0, 3, promise(3, 8, 1)), 8);
     row("8 before 9: instance 8, sender M", backup(1, 0, 5, promise(5, 8, 1)), 8);
     row("9 before 17: sender M, phase 3", backup(3, 0, 3, promise(3, 0, 1)), 9);
@@ -212,6 +214,7 @@ static void start_order(void)
 {
     row("7 before 1: M is 4, 35 bytes", start(1, 4, 0, 0, 35), 7);
     row("1 before 8: 35 bytes, instance 8", start(1, 3, 8, 0, 35), 1);
+    row("1 before 17: 35 bytes, phase 3", start(3, 5, 0, 0, 35), 1);
     row("8 before 17: instance 8, phase 3", start(3, 5, 8, 0, 36), 8);
     row("8 before 16: instance 8, no round above the floor", start(1, 7, 8, UINT32_C(4294967295), 36), 8);
     row("17 before 16: phase 3, no round above the floor", start(3, 7, 0, UINT32_C(4294967295), 36), 17);
@@ -252,6 +255,7 @@ static void learner_order(void)
 {
     reading(hearing_learner, 3, vote(1, 0, 5, 0), promise(1, 0, 5));
     row("6 before 8: a promise, instance 8", learner(1, 5, promise(1, 8, 5)), 6);
+    row("6 before 17: a promise, no voters", learner(0, 7, promise(1, 0, 5)), 6);
     row("8 before 9: instance 8, sender M", learner(1, 3, vote(3, 8, 5, 0)), 8);
     row("8 before 9: instance 8, sender M", learner(1, 5, vote(5, 8, 5, 0)), 8);
     row("9 before 17: sender M, no voters", learner(0, 3, vote(3, 0, 5, 0)), 9);
@@ -290,6 +294,7 @@ static uint32_t answer(uint8_t set, uint32_t acceptors, uint32_t instance)
 static void answer_order(void)
 {
     row("7 before 8: M is 4, instance 8", answer(1, 4, 8), 7);
+    row("7 before 17: M is 4, no voters", answer(0, 4, 0), 7);
     row("8 before 17: instance 8, no voters", answer(0, 5, 8), 8);
     row("17: no voters", answer(0, 7, 0), 17);
 }

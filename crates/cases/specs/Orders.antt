@@ -1,7 +1,7 @@
 -- The orders of refusal as one table: for each call, and each two neighbours in its order, an input that has both faults and is answered by the earlier number.
 -- N = 8, all cells of a table are alike, values are null and packets are for instance 0 unless said. No input has both of 8 and 17, since an instance not below N has no
--- cell, nor both of the primary's 17 and 12, nor of the learner's 10 and 13: there each has its own row, and another one with the number on the pair's far side. Where M is
--- 7, 9 is never given, since sender 7 breaks the packet table.
+-- cell, nor both of the primary's 17 and 12, nor of the learner's 10 and 13: there each of the two has a row with the number before them, and with the one behind. Where M
+-- is 7, 9 is never given, since sender 7 breaks the packet table.
 -- Assumes nothing.
 use Prim.Native.Nat.{ℕ}
 use mathlib.Core.Path.{_≡_}
@@ -99,6 +99,8 @@ acceptorOrder =
     reading (acceptor 0 0) 5 (propose 0 0) (vote 0 0 0 null) ++
     -- 6 before 8: a vote, instance 8
     acceptor 0 0 3 (vote 0 8 0 null) gives 6
+    -- 6 before 17: a vote, a vote round above the round
+    ∷ acceptor 1 5 5 (vote 0 0 0 null) gives 6
     -- 8 before 17: instance 8, a vote round above the round
     ∷ acceptor 1 5 5 (propose 8 1) gives 8
     -- 8 before 10: instance 8, a round below
@@ -124,6 +126,8 @@ backupOrder =
     reading (backup 1 0) 7 (promise 0 0 1) (vote 0 0 0 null) ++
     -- 6 before 8: a vote, instance 8
     backup 1 0 3 (vote 0 8 0 null) gives 6
+    -- 6 before 17: a vote, phase 3
+    ∷ backup 3 0 7 (vote 0 0 0 null) gives 6
     -- 8 before 9: instance 8, sender M
     ∷ backup 1 0 3 (promise 3 8 1) gives 8
     ∷ backup 1 0 5 (promise 5 8 1) gives 8
@@ -163,6 +167,8 @@ startOrder =
     start 1 4 0 0 35 gives 7
     -- 1 before 8: 35 bytes, instance 8
     ∷ start 1 3 8 0 35 gives 1
+    -- 1 before 17: 35 bytes, phase 3
+    ∷ start 3 5 0 0 35 gives 1
     -- 8 before 17: instance 8, phase 3
     ∷ start 3 5 8 0 36 gives 8
     -- 8 before 16: instance 8, no round above the floor
@@ -187,6 +193,8 @@ learnerOrder =
     reading (learner 1) 3 (vote 1 0 5 null) (promise 1 0 5) ++
     -- 6 before 8: a promise, instance 8
     learner 1 5 (promise 1 8 5) gives 6
+    -- 6 before 17: a promise, no voters
+    ∷ learner 0 7 (promise 1 0 5) gives 6
     -- 8 before 9: instance 8, sender M
     ∷ learner 1 3 (vote 3 8 5 null) gives 8
     ∷ learner 1 5 (vote 5 8 5 null) gives 8
@@ -234,6 +242,8 @@ abbrev answerOrder : List Row
 answerOrder =
     -- 7 before 8: M is 4, instance 8
     answer 1 4 8 gives 7
+    -- 7 before 17: M is 4, no voters
+    ∷ answer 0 4 0 gives 7
     -- 8 before 17: instance 8, no voters
     ∷ answer 0 5 8 gives 8
     -- 17: no voters
