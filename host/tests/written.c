@@ -52,7 +52,9 @@ typedef struct {
 } learner;
 
 static const learner unheard = {{4294967295, 4294967295}, {0, 0}, {0}};
+static const learner heard_of_0 = {{4294967295, 16909061}, {0, 1}, VALUES};
 static const learner heard = {{4294967295, 16909061}, {0, 4}, VALUES};
+static const learner decided = {{4294967295, 16909061}, {0, 5}, VALUES};
 
 static void primary_is(const uint8_t *given, uint32_t next, uint32_t answer, const uint8_t *left, uint32_t next_left, const char *what)
 {
@@ -103,12 +105,30 @@ static int is_learner(const learner *l, const learner *wanted)
            && memcmp(l->values, wanted->values, sizeof l->values) == 0;
 }
 
+static void answer_is(const learner *l, uint32_t answer, uint64_t high_left, uint64_t low_left, const char *what)
+{
+    uint64_t high = 7, low = 8;
+    expect(myrthakel_learner_answer(3, 2, 1, l->rounds, 2, l->sets, 2, l->values, 4, &high, &low) == answer && high == high_left && low == low_left, what);
+}
+
+static void hole_is(const learner *l, uint32_t answer, uint32_t left, const char *what)
+{
+    uint32_t instance = 9;
+    expect(myrthakel_learner_first_hole(3, 2, l->rounds, 2, l->sets, 2, l->values, 4, &instance) == answer && instance == left, what);
+}
+
 static void learner_cases(void)
 {
     uint8_t buffer[50] = {0};
     learner l = unheard;
     expect(myrthakel_learner_step(3, 2, vote, 36, l.rounds, 2, l.sets, 2, l.values, 4) == 104 && is_learner(&l, &heard), "a vote is held");
     expect(myrthakel_learner_save(3, 2, l.rounds, 2, l.sets, 2, l.values, 4, buffer, 50) == 106 && memcmp(buffer, saved, 50) == 0, "a table is saved as these bytes");
+    l = heard_of_0;
+    expect(myrthakel_learner_step(3, 2, vote, 36, l.rounds, 2, l.sets, 2, l.values, 4) == 105 && is_learner(&l, &decided), "a vote decides");
+    answer_is(&decided, 106, UINT64_C(0x0102030405060708), UINT64_C(0x090a0b0c0d0e0f10), "a decided value is answered");
+    answer_is(&heard, 107, 7, 8, "not yet is answered");
+    hole_is(&decided, 106, 0, "a hole is found");
+    hole_is(&heard, 108, 9, "no hole is found");
     l = unheard;
     expect(myrthakel_learner_read_saved(3, 2, saved, 50, l.rounds, 2, l.sets, 2, l.values, 4) == 106 && is_learner(&l, &heard), "and these bytes are read as that table");
 }

@@ -17,7 +17,8 @@ use Rattle.acceptor.specs.Acceptor.{acceptorStep}
 use Rattle.backup_tables.specs.Tables as backups
 use Rattle.backup.specs.Backup.{backupStep, backupStart}
 use Rattle.learner_tables.specs.Tables as learners
-use Rattle.learner.specs.Learner.{learnerStep}
+use Rattle.learner.specs.Learner.{learnerStep, answerFor, answered}
+use Rattle.learner_holes.specs.Holes as holes
 use Rattle.learner_saved.specs.Saved.{save, readSaved}
 
 -- ---- packets: mark, type, version, switch number; instance; round; vote round; value
@@ -108,8 +109,15 @@ bestOfEmptySet = backups.tables (0 ∷ 16_909_061 ∷ []) (0 ∷ 1 ∷ []) (0 �
 abbrev unheard : learners.Tables
 unheard = learners.tables (4_294_967_295 ∷ 4_294_967_295 ∷ []) (0 ∷ 0 ∷ []) noValues
 
+-- By acceptor 0 or 2 (bits 1 and 4), and by both.
+abbrev heardOf0 : learners.Tables
+heardOf0 = learners.tables (4_294_967_295 ∷ 16_909_061 ∷ []) (0 ∷ 1 ∷ []) values
+
 abbrev heard : learners.Tables
 heard = learners.tables (4_294_967_295 ∷ 16_909_061 ∷ []) (0 ∷ 4 ∷ []) values
+
+abbrev decided : learners.Tables
+decided = learners.tables (4_294_967_295 ∷ 16_909_061 ∷ []) (0 ∷ 5 ∷ []) values
 
 -- Mark "RDT", version 1 (2 bytes), M (1), N (2), then N cells of 21 bytes: round 4, set 1, value 16.
 abbrev saved : List ℕ
@@ -125,7 +133,7 @@ pub record WrittenOut : Type 0 where
   pub acceptor-fresh : acceptors.freshTables 2 ≡ neverVoted
   pub backup-fresh : backups.freshTables 2 ≡ idle
   pub learner-fresh : learners.freshTables 2 ≡ unheard
-  -- 101 to acceptors, 102 to leader, 103 to learners, 104 hold, 106 done
+  -- 101 to acceptors, 102 to leader, 103 to learners, 104 hold, 105 decided, 106 done, 107 not yet, 108 no hole
   pub request-proposed : primaryStep (settings 3 2) request (1 ∷ []) ≡ outcome 101 (lent proposeOfPrimary (2 ∷ []))
   pub start-prepares :
       backupStart (settings 3 2) 1 (theInstance 1) 16_909_060 (theValue 7 8) (replicate 36 0) idle ≡ outcome 101 (lent prepare asking)
@@ -136,6 +144,11 @@ pub record WrittenOut : Type 0 where
   pub tie-keeps-the-first : backupStep (settings 3 2) 1 promiseOfTie toldOfVote ≡ outcome 101 (lent proposeOfBackup proposed)
   pub propose-voted : acceptorStep (settings 3 2) 2 proposeOfBackup promised ≡ outcome 103 (lent vote voted)
   pub vote-held : learnerStep (settings 3 2) vote unheard ≡ outcome 104 (lent vote heard)
+  pub vote-decides : learnerStep (settings 3 2) vote heardOf0 ≡ outcome 105 (lent vote decided)
+  pub value-answered : answered (theValue 7 8) (answerFor (settings 3 2) (theInstance 1) decided) ≡ outcome 106 (theValue 0x0102030405060708 0x090a0b0c0d0e0f10)
+  pub not-yet-answered : answered (theValue 7 8) (answerFor (settings 3 2) (theInstance 1) heard) ≡ outcome 107 (theValue 7 8)
+  pub hole-found : holes.answered 9 (holes.findHole (settings 3 2) decided) ≡ outcome 106 0
+  pub no-hole-found : holes.answered 9 (holes.findHole (settings 3 2) heard) ≡ outcome 108 9
   pub table-saved : save (settings 3 2) (replicate 50 0) heard ≡ outcome 106 (lent saved heard)
   pub table-read : readSaved (settings 3 2) saved unheard ≡ outcome 106 (lent saved heard)
   -- null is never requested: 5; with an empty set, best is none: 17
