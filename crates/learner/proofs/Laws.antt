@@ -35,7 +35,7 @@ use Rattle.learner.specs.Learner.{place, rule, learner, learnerStep, ans
 
 -- what holds of a vote that is counted, and of the refusal of any other kind, holds of the rule
 pub rule-elim : (P : Ruling Cell → Type 0) (M : ℕ) (c : Cell) (m : Message)
-    → ((a : ℕ) (i : Instance) (r : Round) (v : Value) → m ≡ Vote a i r v → P (countVote M c a i r v)) → P (refused 6) → P (rule M c m)
+    → ((a : ℕ) (i : Instance) (r : Round) (v : Value) → m ≡ Vote a i r v → P (countVote M c a r v)) → P (refused 6) → P (rule M c m)
 unfolding rule
 rule-elim P M c m votes other = vote-elim P _ _ m votes other
 
@@ -59,7 +59,7 @@ placed-below N m =
 
 pub learner-counts : (s : Settings) (packet : List ℕ) (t : Tables) (a : ℕ) (i : Instance) (r : Round) (v : Value) (verdict : Verdict) (c : Cell)
     → learnerAllowed s t ≡ true → i .0 < s .instances → readPacket packet ≡ Read (Vote a i r v)
-    → countVote (s .acceptors) (cellAt t (i .0)) a i r v ≡ counts verdict c
+    → countVote (s .acceptors) (cellAt t (i .0)) a r v ≡ counts verdict c
     → learnerStep s packet t ≡ outcome (verdictNumber verdict) (lent packet (withCell t (i .0) c))
 unfolding learnerStep learner place rule whenVote ruled
 learner-counts s packet t a i r v verdict c allowed inside reads counted =

@@ -87,7 +87,7 @@ module _ (s : Settings) (packet : List ℕ) (t : Tables) (fine : Bool) (fine-so 
               acted _ (steps.not-placed cellAt withCell packet t (λ c. rule (s .acceptors) c m) _ p stands number answer no-place answer-so)
 
           pub step-there : (index : ℕ) (c : Cell) (r : Ruled) (o : Outcome (Lent Tables)) → p ≡ At index → c ≡ cellAt t index
-              → rulingOf r ≡ countVote (s .acceptors) c sender instance round value → o ≡ ruled packet t (withCell t index) (rulingOf r) → o ≡ learnerStep s packet t
+              → rulingOf r ≡ countVote (s .acceptors) c sender round value → o ≡ ruled packet t (withCell t index) (rulingOf r) → o ≡ learnerStep s packet t
           unfolding learner act rule whenVote
           step-there index c r o at c-so r-so o-so =
               acted o

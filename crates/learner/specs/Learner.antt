@@ -27,7 +27,7 @@ unfoldable pub place : (N : ℕ) → Message → Place
 place N = whenVote (λ sender instance round value. placed N instance) (Nowhere 6)
 
 unfoldable pub rule : (M : ℕ) → Cell → Message → Ruling Cell
-rule M c = whenVote (countVote M c) (refused 6)
+rule M c = whenVote (λ sender instance round value. countVote M c sender round value) (refused 6)
 
 unfoldable pub learner : Settings → Player Tables Cell
 learner s = record {

@@ -95,7 +95,7 @@ pub extern "C" fn myrthakel_learner_step(
         return basics::nowhere(place);
     };
     let cell = learner_tables::cell_at(rounds, sets, values, index);
-    let answer = learner_rule::count_vote(acceptors, cell, sender, instance, round, value);
+    let answer = learner_rule::count_vote(acceptors, cell, sender, round, value);
     carry_out(answer, packet, rounds, sets, values, index)
 }
 

@@ -4,7 +4,6 @@ use Prim.Native.Nat.{ℕ, _≤_, _<_}
 use mathlib.Core.Path.{_≡_, sym, _∙_}
 use mathlib.Core.Bool.{Bool, true, false, not}
 use borrow.Author.Tests.{not-true, not-false, lt-ltb, le-ltb}
-use Rattle.basics.specs.declared.Instance.{Instance}
 use Rattle.basics.specs.declared.Round.{Round}
 use Rattle.basics.specs.declared.Value.{Value}
 use Rattle.basics.specs.Ladder.{if_then_else_, need_or_then_}
@@ -17,9 +16,9 @@ use Rattle.learner_cell.specs.declared.Cell.{Cell}
 use Rattle.learner_cell.specs.Cell.{isDecided, possible, withVoter}
 use Rattle.learner_rule.specs.Rule.{holdOrDecide, addVoter, countVote}
 
-module _ (M : ℕ) (c : Cell) (sender : ℕ) (instance : Instance) (round : Round) (value : Value) where
+module _ (M : ℕ) (c : Cell) (sender : ℕ) (round : Round) (value : Value) where
   abbrev counted : Ruling Cell
-  counted = countVote M c sender instance round value
+  counted = countVote M c sender round value
 
   pub vote-9 : M ≤ sender → refused 9 ≡ counted
   unfolding countVote need_or_then_

@@ -3,7 +3,6 @@
 use Prim.Native.Nat.{ℕ}
 use mathlib.Core.Bool.{not}
 use lib.Dec.{ltb}
-use Rattle.basics.specs.declared.Instance.{Instance}
 use Rattle.basics.specs.declared.Round.{Round}
 use Rattle.basics.specs.declared.Value.{Value}
 use Rattle.basics.specs.declared.Verdict.the-variants.{Hold, Decided}
@@ -29,8 +28,8 @@ addVoter M c sender round value =
     holdOrDecide M (withVoter (c .set) sender round value)
 
 -- A vote with a higher round (any beats none) replaces all three. 9, 17, 14, 10.
-unfoldable pub countVote : (M : ℕ) → Cell → (sender : ℕ) → Instance → Round → Value → Ruling Cell
-countVote M c sender instance round value =
+unfoldable pub countVote : (M : ℕ) → Cell → (sender : ℕ) → Round → Value → Ruling Cell
+countVote M c sender round value =
     need ltb sender M or refused 9 then
     need possible M c or refused 17 then
     need not (isDecided M c) or refused 14 then

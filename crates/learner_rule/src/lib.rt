@@ -1,7 +1,6 @@
 // The rule by which a learner counts a vote at a cell.
 ghost use mathlib.Core.Path.{_≡_};
 ghost use Rattle.learner_rule.specs.Rule.{holdOrDecide, countVote, rulingOf};
-use basics::Instance;
 use basics::Round;
 use basics::Value;
 use learner_cell::Cell;
@@ -22,15 +21,8 @@ fn hold_or_decide(acceptors: u32, next: Cell) -> Ruled
     Ruled::Held { cell: next }
 }
 
-pub fn count_vote(
-    acceptors: u32,
-    cell: Cell,
-    sender: u16,
-    instance: Instance,
-    round: Round,
-    value: Value,
-) -> Ruled
-    ensures { λ r. ⌜ rulingOf r ≡ countVote acceptors cell sender «instance» round value ⌝ }
+pub fn count_vote(acceptors: u32, cell: Cell, sender: u16, round: Round, value: Value) -> Ruled
+    ensures { λ r. ⌜ rulingOf r ≡ countVote acceptors cell sender round value ⌝ }
 {
     if acceptors <= (sender as u32) {
         return Ruled::Refused(9);

@@ -107,7 +107,7 @@ module _ {s : Settings} {w : Boxes} (h : Represents s w) (which : ℕ) where
       let at : PlacedAt (s .instances) (i .0) index = sym (vote-placed (s .instances) a i r v) ∙ ap (place (s .instances)) (sym e) ∙ stands in
       let votes = h .slots (i .0) .votes in
       let new : Mem (vote a r v) votes = met-vote (met h handed (reads ∙ ap Read e)) in
-      counting-elim (λ r. Represents s (afterLearner w which (ruled p t (withCell t index) r))) (s .acceptors) c a i r v
+      counting-elim (λ r. Represents s (afterLearner w which (ruled p t (withCell t index) r))) (s .acceptors) c a r v
       (refuses p 9 refl) (refuses p 17 refl) (refuses p 14 refl) (refuses p 10 refl) (refuses p 13 refl) (refuses p 15 refl)
       (λ _ _ _ _ _. stores p (i .0) index _ at sized (joins votes 0 a r v new (λ b m. absurd (omega (arith, empty-bit b, m)))))
       (λ _ _ _ current agrees _. stores p (i .0) index _ at sized (joins votes (c .set) a r v new (λ b m.

@@ -1,4 +1,4 @@
--- `learner_rule::count_vote` meets its contract: each return is a way out of `vote`.
+-- `learner_rule::count_vote` meets its contract: each return is a way out of `countVote`.
 -- Assumes nothing.
 use mathlib.Core.Path.{ap, _∙_}
 use Rattle.learner_rule.specs.Rule.{holdOrDecide}
@@ -8,13 +8,13 @@ use Rattle.learner_rule.proofs.count_vote.Statement.{statement}
 use Rattle.learner_rule.proofs.count_vote.Tie as tie
 
 returns : tie.Need-returns
-returns c = vote-9 _ _ _ _ _ _ (c .if1 .taken)
+returns c = vote-9 _ _ _ _ _ (c .if1 .taken)
 
 is-possible-requires : tie.Need-is-possible-requires
 is-possible-requires c κs = search needs
 
 returns-2 : tie.Need-returns-2
-returns-2 c = vote-17 _ _ _ _ _ _ (c .before .before .if1 .left) _ (c .before .is-possible .ensures) (c .if2 .taken)
+returns-2 c = vote-17 _ _ _ _ _ (c .before .before .if1 .left) _ (c .before .is-possible .ensures) (c .if2 .taken)
 
 is-decided-requires : tie.Need-is-decided-requires
 is-decided-requires c κs = search needs
@@ -22,7 +22,7 @@ is-decided-requires c κs = search needs
 returns-3 : tie.Need-returns-3
 returns-3 c =
     let judged = c .before .before in
-    vote-14 _ _ _ _ _ _ (judged .before .before .if1 .left) _ (judged .before .is-possible .ensures) (judged .if2 .left) _ (c .before .is-decided .ensures) (c .if3 .taken)
+    vote-14 _ _ _ _ _ (judged .before .before .if1 .left) _ (judged .before .is-possible .ensures) (judged .if2 .left) _ (c .before .is-decided .ensures) (c .if3 .taken)
 
 at-most-requires : tie.Need-at-most-requires
 at-most-requires c κs = search needs
@@ -31,7 +31,7 @@ returns-4 : tie.Need-returns-4
 returns-4 c =
     let going = c .before .before in
     let judged = going .before .before in
-    vote-10 _ _ _ _ _ _ (judged .before .before .if1 .left) _ (judged .before .is-possible .ensures) (judged .if2 .left) _ (going .before .is-decided .ensures) (going .if3 .left)
+    vote-10 _ _ _ _ _ (judged .before .before .if1 .left) _ (judged .before .is-possible .ensures) (judged .if2 .left) _ (going .before .is-decided .ensures) (going .if3 .left)
     _ (c .before .at-most .ensures) (c .if4 .taken)
 
 same-round-requires : tie.Need-same-round-requires
@@ -49,7 +49,7 @@ returns-5 c =
     let going = compared .before .before in
     let judged = going .before .before in
     c .hold-or-decide .ensures ∙ ap (holdOrDecide _) (c .before .with-voter .ensures)
-    ∙ vote-higher _ _ _ _ _ _ (judged .before .before .if1 .left) _ (judged .before .is-possible .ensures) (judged .if2 .left) _ (going .before .is-decided .ensures) (going .if3 .left)
+    ∙ vote-higher _ _ _ _ _ (judged .before .before .if1 .left) _ (judged .before .is-possible .ensures) (judged .if2 .left) _ (going .before .is-decided .ensures) (going .if3 .left)
     _ (compared .before .at-most .ensures) (compared .if4 .left) _ (c .before .before .before .same-round .ensures) (c .before .before .if5 .taken)
 
 same-value-requires : tie.Need-same-value-requires
@@ -61,7 +61,7 @@ returns-6 c =
     let compared = same .before .before in
     let going = compared .before .before in
     let judged = going .before .before in
-    vote-added _ _ _ _ _ _ (judged .before .before .if1 .left) _ (judged .before .is-possible .ensures) (judged .if2 .left) _ (going .before .is-decided .ensures) (going .if3 .left)
+    vote-added _ _ _ _ _ (judged .before .before .if1 .left) _ (judged .before .is-possible .ensures) (judged .if2 .left) _ (going .before .is-decided .ensures) (going .if3 .left)
     _ (compared .before .at-most .ensures) (compared .if4 .left) _ (same .before .same-round .ensures) _ (same .if5 .left)
     (added-13 _ _ _ _ _ _ (c .before .same-value .ensures) (c .if6 .taken))
 
@@ -75,7 +75,7 @@ returns-7 c =
     let compared = same .before .before in
     let going = compared .before .before in
     let judged = going .before .before in
-    vote-added _ _ _ _ _ _ (judged .before .before .if1 .left) _ (judged .before .is-possible .ensures) (judged .if2 .left) _ (going .before .is-decided .ensures) (going .if3 .left)
+    vote-added _ _ _ _ _ (judged .before .before .if1 .left) _ (judged .before .is-possible .ensures) (judged .if2 .left) _ (going .before .is-decided .ensures) (going .if3 .left)
     _ (compared .before .at-most .ensures) (compared .if4 .left) _ (same .before .same-round .ensures) _ (same .if5 .left)
     (added-15 _ _ _ _ _ _ (agreed .before .same-value .ensures) (agreed .if6 .left) _ (c .before .has-member .ensures) (c .if7 .taken))
 
@@ -93,7 +93,7 @@ returns-8 c =
     let compared = same .before .before in
     let going = compared .before .before in
     let judged = going .before .before in
-    vote-added _ _ _ _ _ _ (judged .before .before .if1 .left) _ (judged .before .is-possible .ensures) (judged .if2 .left) _ (going .before .is-decided .ensures) (going .if3 .left)
+    vote-added _ _ _ _ _ (judged .before .before .if1 .left) _ (judged .before .is-possible .ensures) (judged .if2 .left) _ (going .before .is-decided .ensures) (going .if3 .left)
     _ (compared .before .at-most .ensures) (compared .if4 .left) _ (same .before .same-round .ensures) _ (same .if5 .left)
     (c .hold-or-decide2 .ensures ∙ ap (holdOrDecide _) (c .before .with-voter2 .ensures)
     ∙ added-counted _ _ _ _ _ _ (agreed .before .same-value .ensures) (agreed .if6 .left) _ (absent .before .has-member .ensures) (absent .if7 .left))
