@@ -8,7 +8,7 @@ use native.Mathlib.Omega.{arith}
 use lib.Dec.{eqb, ltb, lit<}
 use borrow.Author.Tests.{eqb-true, eq-eqb, ltb-true}
 use Rattle.basics.proofs.Values.{ValueFits}
-use Rattle.basics.specs.Rounds.{isNone, ownerOf}
+use Rattle.basics.specs.Rounds.{theRound, isNone, ownerOf, sameRound}
 use Rattle.basics.specs.Values.{null, isNull}
 use Rattle.basics.specs.Votes.{isVoteUpTo}
 use Rattle.basics.proofs.Ladder.{by-test, both-true, and-true, or-left, or-right, or-cases}
@@ -38,7 +38,7 @@ fresh-idle : (c : Cell) → isFresh c ≡ true → c .phase ≡ idle
 unfolding isFresh
 fresh-idle c e =
     let p = eqb (c .phase) idle in
-    let r = eqb (c .round .0) 0 in
+    let r = sameRound (c .round) (theRound 0) in
     let s = eqb (c .set) 0 in
     let b = isNone (c .«best_vote_round») in
     let v = isNull (c .«best_value») in

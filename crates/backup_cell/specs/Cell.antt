@@ -6,7 +6,7 @@ use mathlib.Core.Bool.{Bool, not, _&&_, _||_}
 use lib.Dec.{eqb, ltb}
 use Rattle.basics.specs.declared.Round.{Round}
 use Rattle.basics.specs.declared.Value.{Value}
-use Rattle.basics.specs.Rounds.{theRound, none, isNone, ownerOf}
+use Rattle.basics.specs.Rounds.{theRound, none, isNone, ownerOf, sameRound}
 use Rattle.basics.specs.Values.{null, isNull}
 use Rattle.basics.specs.Votes.{isVoteUpTo}
 use Rattle.quorum.specs.Quorum.{majority, within, size}
@@ -32,7 +32,7 @@ freshCell = cell (theRound 0) idle 0 none null null
 -- Idle and fresh in every field.
 unfoldable pub isFresh : Cell → Bool
 isFresh c =
-    eqb (c .phase) idle && eqb (c .round .0) 0 && eqb (c .set) 0 && isNone (c .«best_vote_round») && isNull (c .«best_value») && isNull (c .«own_value»)
+    eqb (c .phase) idle && sameRound (c .round) (theRound 0) && eqb (c .set) 0 && isNone (c .«best_vote_round») && isNull (c .«best_value») && isNull (c .«own_value»)
 
 -- Asking with fewer than majority or proposed with exactly majority.
 unfoldable pub phaseFits : (M phase set : ℕ) → Bool

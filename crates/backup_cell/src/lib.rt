@@ -37,7 +37,7 @@ fn is_fresh(cell: Cell) -> bool
     ensures { λ r. ⌜ r ≡ isFresh cell ⌝ }
 {
     (cell.phase == IDLE)
-        & (cell.round.0 == 0)
+        & basics::same_round(cell.round, Round(0))
         & (cell.set == 0)
         & basics::is_none(cell.best_vote_round)
         & basics::is_null(cell.best_value)

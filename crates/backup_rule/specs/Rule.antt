@@ -21,7 +21,7 @@ use Rattle.backup_rule.specs.declared.Ruled.the-variants.{Sent, Held, Re
 
 -- ---- start
 
--- The smallest number above the given one whose remainder by 4 is this backup's.
+-- The smallest number above the given one whose remainder by 4 is this backup's. Numbers and no rounds: the floor is any number, and what comes out may pass the last round.
 unfoldable pub nextRound : (own above : ℕ) → ℕ
 nextRound own above = above + 1 + (own + 4 - (above + 1) % 4) % 4
 

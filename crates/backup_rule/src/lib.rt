@@ -17,11 +17,12 @@ pub enum Ruled {
 
 // ---- start
 
-// Wide enough for a floor of any 32 bits: past the last round the answer is no round.
-fn next_round(own: u16, held: u32, floor: u32) -> u64
-    ensures { λ r. ⌜ r ≡ nextRound own (max held floor) ⌝ }
+// The floor is any 32-bit number and no round, so the two are compared as numbers. Wide enough for it: past the last round the answer is no round either.
+fn next_round(own: u16, held: Round, floor: u32) -> u64
+    ensures { λ r. ⌜ r ≡ nextRound own (max (held .0) floor) ⌝ }
 {
-    let above = if held < floor { floor } else { held };
+    let number = held.0;
+    let above = if number < floor { floor } else { number };
     let first = (above as u64) + 1;
     first + ((own as u64) + 4 - first % 4) % 4
 }
@@ -39,7 +40,7 @@ pub fn start(
     if !backup_cell::is_possible(acceptors, own, cell) {
         return Ruled::Refused(17);
     }
-    let next = next_round(own, cell.round.0, floor);
+    let next = next_round(own, cell.round, floor);
     if (basics::NONE as u64) <= next {
         return Ruled::Refused(16);
     }

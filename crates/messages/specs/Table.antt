@@ -3,7 +3,7 @@
 use mathlib.Core.Bool.{Bool, true, false, not, _&&_, _||_}
 use lib.Dec.{eqb, leb}
 use Rattle.basics.specs.Ladder.{if_then_else_}
-use Rattle.basics.specs.Rounds.{isNone, nobody, ownerOf, ownedOr0, ownedNot0, atMost, sameRound}
+use Rattle.basics.specs.Rounds.{theRound, isNone, nobody, ownerOf, ownedOr0, ownedNot0, atMost, sameRound}
 use Rattle.basics.specs.Values.{isNull}
 use Rattle.messages.specs.declared.Fields.{Fields}
 use Rattle.messages.specs.declared.Row.{Row}
@@ -26,7 +26,7 @@ byAcceptor f = leb (f .switch) 6
 
 -- | 0 request | any | 0 | 0 | none | not null |
 unfoldable pub requestRow : Fields → Row
-requestRow f = row any (eqb (f .instance .0) 0) (eqb (f .round .0) 0) (isNone (f .«vote_round»)) (not (isNull (f .value)))
+requestRow f = row any (eqb (f .instance .0) 0) (sameRound (f .round) (theRound 0)) (isNone (f .«vote_round»)) (not (isNull (f .value)))
 
 -- | 1 prepare (1A) | round's owner | any | owned, not 0 | none | null |
 unfoldable pub prepareRow : Fields → Row

@@ -61,7 +61,7 @@ fn request_row(f: Fields) -> Row
     Row {
         switch: true,
         instance: f.instance.0 == 0,
-        round: f.round.0 == 0,
+        round: basics::same_round(f.round, Round(0)),
         vote_round: basics::is_none(f.vote_round),
         value: !basics::is_null(f.value),
     }
