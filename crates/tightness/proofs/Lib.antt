@@ -1,1 +1,2 @@
 pub mod Tightness
+pub mod Exported

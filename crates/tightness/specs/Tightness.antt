@@ -9,9 +9,6 @@ use denote.Triple.Entry.{Args, Res}
 use Rattle.basics.specs.Outcome.{outcome, lent}
 use Rattle.quorum.specs.Settings.{settings}
 use Rattle.primary.specs.Primary.{primaryRequest}
-use Rattle.basics.specs.Outcome.{outcome, lent}
-use Rattle.quorum.specs.Settings.{settings}
-use Rattle.primary.specs.Primary.{primaryRequest}
 use Rattle.numbers.proofs.read_u16.Reads as read-u16
 use Rattle.numbers.proofs.read_u32.Reads as read-u32
 use Rattle.numbers.proofs.read_u64.Reads as read-u64
@@ -131,7 +128,7 @@ held-6 lent = (now (lent .0), now (lent .1 .0), now (lent .1 .1 .0), now (lent .
 abbrev pub held-7 : {A B C D E F G Rest : Type 0} → RefT A × (RefT B × (RefT C × (RefT D × (RefT E × (RefT F × (RefT G × Rest)))))) → A × (B × C × D × E × F × G)
 held-7 lent = (now (lent .0), held-6 (lent .1))
 
--- The call on a record lent by reference is proved by hand, and the checker reads no such promise off it. This is what its contract states (`requested-stated`).
+-- The call on a record lent by reference is proved by hand, and the checker reads no such promise off it. This is what its contract states (`of-primary-request` of `ExportedCalls`).
 abbrev pub requested : (κs : Lfts 2) → Args primary-request.signature κs → Res primary-request.signature κs → AtExit primary-request.ended κs → Type 0
 requested κs entry answer exit =
     outcome answer (lent (now (exit .1 .1 .0)) (now (exit .1 .1 .1 .0)))

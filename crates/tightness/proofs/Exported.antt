@@ -1,0 +1,19 @@
+-- Each exported call does what its definition says: its contract is that equation, so what its promise tells is it.
+-- Assumes nothing.
+use mathlib.Core.Path.{refl}
+use Rattle.tightness.specs.Exported.{ExportedCalls}
+
+pub exported-calls : ExportedCalls
+exported-calls = record {
+  of-primary-step = λ _ _ _ _ told. told;
+  of-primary-request = λ _ _ _ _ _ _ _ _ _. refl;
+  of-acceptor-step = λ _ _ _ _ told. told;
+  of-backup-start = λ _ _ _ _ told. told;
+  of-backup-step = λ _ _ _ _ told. told;
+  of-learner-step = λ _ _ _ _ told. told;
+  of-learner-answer = λ _ _ _ _ told. told;
+  of-learner-deliver = λ _ _ _ _ told. told;
+  of-learner-first-hole = λ _ _ _ _ told. told;
+  of-learner-save = λ _ _ _ _ told. told;
+  of-learner-read-saved = λ _ _ _ _ told. told;
+}
