@@ -1,3 +1,4 @@
 pub mod BigEndian
 pub mod Swapped
 pub mod Fronts
+pub mod Promises
