@@ -3,7 +3,7 @@
 use mathlib.Core.Path.{_≡_, refl, sym, _∙_}
 use mathlib.Core.Bool.{Bool, true, false, _||_, cond, and-eq-true-iff}
 use mathlib.Core.Logic.{_↔_, _⊎_, inl, inr}
-use Prim.Native.Nat.{ℕ, zero, suc, _+_, _*_, _/_, _%_, _^_, _≤_, _<_}
+use Prim.Native.Nat.{ℕ, zero, suc, _+_, _/_, _%_, _^_, _≤_, _<_}
 use native.Mathlib.Nat.{zero-div}
 use native.Mathlib.Decide.{ℕ-discrete, decLt}
 use native.Mathlib.Omega.{arith}
@@ -13,18 +13,17 @@ use lib.Pow.{pow-pos}
 use borrow.Author.Tests.{eqb-true, eqb-false, leb-true, ltb-true, eq-eqb, ne-eqb, le-leb, lt-leb, lt-ltb}
 use Rattle.quorum.specs.declared.Settings.{Settings}
 use Rattle.quorum.specs.Settings.{acceptorsAllowed, instancesAllowed, allowed}
-use Rattle.quorum.specs.Quorum.{majority, bit, Member, hasMember, withMember, within, size, reaches, AtLeast, Quorum, Shared}
+use Rattle.quorum.specs.Quorum.{majority, bit, Member, hasMember, withMember, within, size, reaches, AtLeast, Shared}
+use Rattle.quorum.specs.Promises.{Majorities, MajorityIff, Share, QuorumsShare}
 use Rattle.quorum.proofs.Bits.{bit-below-2, lowest-bit, higher-bit, bit-above, same-bits, added}
 
 -- ---- what each definition says in numbers
 
--- The majorities of 3, 5 and 7 acceptors.
-pub majorities : (majority 3 ≡ 2) × (majority 5 ≡ 3) × (majority 7 ≡ 4)
+pub majorities : Majorities
 unfolding majority
 majorities = (refl, refl, refl)
 
--- More than half of M is at least majority.
-pub majority-iff : (acceptors count : ℕ) → (acceptors < 2 * count) ↔ (majority acceptors ≤ count)
+pub majority-iff : MajorityIff
 unfolding majority
 majority-iff acceptors count = (λ half. omega arith, λ reached. omega arith)
 
@@ -74,9 +73,7 @@ meeting (suc acceptors) first second first-small second-small many =
           in-second = higher-bit (half .member) second ∙ half .in-second;
         }
 
--- Two sets within M whose sizes add up to more than M share a member.
-pub share : (acceptors first second : ℕ) → within acceptors first ≡ true → within acceptors second ≡ true → acceptors < size first + size second
-    → Shared first second
+pub share : Share
 share acceptors first second first-inside second-inside =
     meeting acceptors first second (within-iff acceptors first .0 first-inside) (within-iff acceptors second .0 second-inside)
 
@@ -87,8 +84,7 @@ thresholds-share {first-threshold} {second-threshold} {acceptors} {first} {secon
     share acceptors first second (first-has .inside) (second-has .inside)
     (omega (arith, reaches-iff first-threshold first .0 (first-has .enough), reaches-iff second-threshold second .0 (second-has .enough)))
 
--- Two sets within M that both reach majority share a member.
-pub quorums-share : {acceptors first second : ℕ} → Quorum acceptors first → Quorum acceptors second → Shared first second
+pub quorums-share : {acceptors first second : ℕ} → QuorumsShare acceptors first second
 unfolding majority
 quorums-share first-has second-has = thresholds-share (omega arith) first-has second-has
 

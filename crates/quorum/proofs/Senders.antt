@@ -10,8 +10,9 @@ use native.Mathlib.Nat.{mod-eq-of-lt, mod-one}
 use native.Mathlib.Omega.{arith}
 use native.Mathlib.Decide.{ℕ-discrete}
 use lib.Count.{ones}
-use Rattle.quorum.specs.Quorum.{bit, Member, within, size, reaches}
-use Rattle.quorum.specs.Voters.{Mem, newest, older, senderSet, DistinctSenders}
+use Rattle.quorum.specs.Quorum.{bit, Member, within, size}
+use Rattle.quorum.specs.Voters.{Mem, newest, older, senderSet}
+use Rattle.quorum.specs.Promises.{SendersReach}
 use Rattle.quorum.proofs.Bits.{bit-below-2, ones-below}
 use Rattle.quorum.proofs.Laws.{within-iff, reaches-iff, empty-within, empty-bit, with-member-in, with-member-cases, with-member-keeps, with-member-within}
 use Rattle.quorum.proofs.Voters.{listed, set-of}
@@ -58,22 +59,25 @@ module _ (acceptors : ℕ) (few : acceptors ≤ 8) where
     pub senders-are : (sender : ℕ) → Mem sender senders ↔ Member sender (senderSet senders)
     senders-are sender = (stands-in senders known sender, is-sender senders sender)
 
-    pub senders-reach : (threshold : ℕ) → (reaches threshold (senderSet senders) ≡ true) ↔ DistinctSenders threshold senders
-    senders-reach threshold = (
-      λ reached.
-          let q = listed acceptors (senderSet senders) inside in
-          record {
-            chosen = q .voters;
-            distinct = q .names .distinct;
-            stand = λ sender there. senders-are sender .1 (q .names .members sender .0 there);
-            enough = omega (arith, q .names .count, reaches-iff threshold (senderSet senders) .0 reached);
-          },
-      λ d.
-          let q = set-of acceptors (d .chosen) (d .distinct) (λ sender there. known sender (d .stand sender there)) in
-          let larger = size-rises acceptors (q .set) (senderSet senders) (q .names .inside) inside
-          (λ sender present. senders-are sender .0 (d .stand sender (q .names .members sender .1 present))) in
-          reaches-iff threshold (senderSet senders) .1 (omega (arith, larger, q .names .count, d .enough)),
-    )
-      where
-        inside : within acceptors (senderSet senders) ≡ true
-        inside = senders-within senders known
+pub senders-reach : SendersReach
+senders-reach acceptors few senders known threshold = (
+  λ reached.
+      let q = listed acceptors (senderSet senders) inside in
+      record {
+        chosen = q .voters;
+        distinct = q .names .distinct;
+        stand = λ sender there. are sender .1 (q .names .members sender .0 there);
+        enough = omega (arith, q .names .count, reaches-iff threshold (senderSet senders) .0 reached);
+      },
+  λ d.
+      let q = set-of acceptors (d .chosen) (d .distinct) (λ sender there. known sender (d .stand sender there)) in
+      let larger = size-rises acceptors (q .set) (senderSet senders) (q .names .inside) inside
+      (λ sender present. are sender .0 (d .stand sender (q .names .members sender .1 present))) in
+      reaches-iff threshold (senderSet senders) .1 (omega (arith, larger, q .names .count, d .enough)),
+)
+  where
+    inside : within acceptors (senderSet senders) ≡ true
+    inside = senders-within acceptors few senders known
+
+    are : (sender : ℕ) → Mem sender senders ↔ Member sender (senderSet senders)
+    are = senders-are acceptors few senders known

@@ -2,17 +2,17 @@
 -- names a set's members is as long as the count. The list is built acceptor by acceptor, and the set voter by voter.
 -- Assumes nothing.
 use mathlib.Core.Path.{_≡_, refl, sym, ap, _∙_, subst}
-use mathlib.Core.Bool.{true}
 use mathlib.Core.List.{List, [], _∷_}
 use mathlib.Core.Logic.{_↔_, Iff·trans, Iff·symm}
-use Prim.Native.Nat.{ℕ, zero, suc, _+_, _*_, _%_, _^_, _≤_, _<_}
+use Prim.Native.Nat.{ℕ, zero, suc, _+_, _%_, _^_, _≤_, _<_}
 use native.Mathlib.Nat.{mod-eq-of-lt, mod-one}
 use native.Mathlib.Omega.{arith}
 use native.Mathlib.Decide.{ℕ-discrete}
 use lib.Count.{ones}
 use lib.ListN.{length}
-use Rattle.quorum.specs.Quorum.{majority, bit, Member, within, AtLeast, Quorum}
+use Rattle.quorum.specs.Quorum.{majority, bit, Member, within, AtLeast}
 use Rattle.quorum.specs.Voters.{Mem, newest, older, Distinct, Names}
+use Rattle.quorum.specs.Promises.{SetIsListed, ListHasSet, ExactList, HalfIff}
 use Rattle.quorum.proofs.Bits.{bit-below-2, ones-below, Added, added}
 use Rattle.quorum.proofs.Laws.{majority-iff, within-iff, reaches-iff, member-below, same-members, empty-within, empty-bit, empty-size}
 
@@ -80,12 +80,7 @@ names-below (suc bound) set = go (ℕ-discrete (bit bound set) 1) (names-below b
     go (yes present) rest = (bound ∷ rest .0, with-next bound set (rest .0) present (rest .1))
     go (no absent) rest = (rest .0, without-next bound set (rest .0) absent (rest .1))
 
--- A set within M has a list of its members.
-pub record Listed (acceptors set : ℕ) : Type 0 where
-  pub voters : List ℕ
-  pub names : Names acceptors set voters
-
-pub listed : (acceptors set : ℕ) → within acceptors set ≡ true → Listed acceptors set
+pub listed : SetIsListed
 listed acceptors set inside =
     let list = names-below acceptors set in
     let small = within-iff acceptors set .0 inside in
@@ -101,11 +96,6 @@ listed acceptors set inside =
     }
 
 -- ---- a list's set
-
--- A list of distinct numbers below M has a set.
-pub record SetOf (acceptors : ℕ) (voters : List ℕ) : Type 0 where
-  pub set : ℕ
-  pub names : Names acceptors set voters
 
 -- a voter that is not in the list yet is put first
 with-first : (acceptors set voter : ℕ) (others : List ℕ) → (Mem voter others → ⊥) → voter < acceptors → Names acceptors set others
@@ -135,7 +125,7 @@ with-first acceptors set voter others new small rest = record {
     in-list other present (yes same) = newest same
     in-list other present (no differs) = older (rest .members other .1 (sym (grown .others other differs) ∙ present))
 
-pub set-of : (acceptors : ℕ) (voters : List ℕ) → Distinct voters → ((voter : ℕ) → Mem voter voters → voter < acceptors) → SetOf acceptors voters
+pub set-of : ListHasSet
 set-of acceptors [] distinct known = record {
   set = 0;
   names = record {
@@ -152,9 +142,7 @@ set-of acceptors (voter ∷ others) distinct known =
 
 -- ---- what the count says
 
--- Whatever list has exactly the members of a set within M, each once, is as long as the set's size says.
-pub exact-list : (acceptors set : ℕ) (voters : List ℕ) → within acceptors set ≡ true → Distinct voters
-    → ((voter : ℕ) → Mem voter voters ↔ Member voter set) → Names acceptors set voters
+pub exact-list : ExactList
 exact-list acceptors set voters inside distinct members =
     let built = set-of acceptors voters distinct (λ voter listed. member-below acceptors set voter inside (members voter .0 listed)) in
     subst (λ (same : ℕ). Names acceptors same voters)
@@ -171,6 +159,5 @@ threshold-iff {set = set} threshold named =
       λ set-has. omega (arith, named .count, reached .0 (set-has .enough)),
     )
 
--- The voters are more than half of the acceptors exactly when their set is a quorum.
-pub half-iff : {acceptors set : ℕ} {voters : List ℕ} → Names acceptors set voters → (acceptors < 2 * length voters) ↔ Quorum acceptors set
+pub half-iff : {acceptors set : ℕ} {voters : List ℕ} → HalfIff acceptors set voters
 half-iff {acceptors} {voters = voters} named = Iff·trans (majority-iff acceptors (length voters)) (threshold-iff (majority acceptors) named)
