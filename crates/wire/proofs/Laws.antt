@@ -27,7 +27,8 @@ use Rattle.messages.specs.Message.{fieldsOf}
 use Rattle.wire.specs.declared.Reading.{Reading}
 use Rattle.wire.specs.declared.Reading.the-variants.{Read, Refused}
 use Rattle.wire.specs.Packet.{packetLength, version, fieldsIn, readPacket, packetWith, packetOf, withMessage}
-use Rattle.wire.proofs.RoundTrip.{InRange, joined, columns, read-kept, read-fields, packet-reads}
+use Rattle.wire.specs.Promises.{InRange}
+use Rattle.wire.proofs.RoundTrip.{joined, columns, read-kept, read-fields, packet-reads}
 
 -- ---- reading and writing
 

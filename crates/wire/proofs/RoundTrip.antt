@@ -1,10 +1,9 @@
 -- Writing a message and reading it back gives the message; reading a packet and writing it back gives the bytes; a packet has a reading exactly when it
 -- keeps the table. Bytes, fields and messages match one to one, and each step has its own inverse.
 -- Assumes nothing.
-use Prim.Native.Nat.{ℕ, zero, suc, _+_, _≤_, _<_, _^_}
+use Prim.Native.Nat.{ℕ, zero, suc, _+_, _≤_, _<_}
 use mathlib.Core.Path.{_≡_, refl, sym, ap, _∙_, subst}
 use mathlib.Core.Bool.{Bool, true, false, _&&_, _||_, true≢false}
-use mathlib.Core.Logic.{_↔_}
 use mathlib.Core.List.{List, [], _∷_, _++_}
 use native.Mathlib.Omega.{arith}
 use lib.Dec.{eqb, leb}
@@ -32,17 +31,9 @@ use Rattle.messages.specs.Message.{fields, messageOf, fieldsOf}
 use Rattle.wire.specs.declared.Reading.{Reading}
 use Rattle.wire.specs.declared.Reading.the-variants.{Read, Refused}
 use Rattle.wire.specs.Packet.{packetLength, version, marked, fieldsIn, readPacket, Kept, packetWith, packetOf, writePacket}
+use Rattle.wire.specs.Promises.{InRange, WriteThenRead, ReadThenWrite, ReadingIffKept}
 
 -- ---- packet and fields
-
--- the numbers fit where they stand
-pub record InRange (f : Fields) : Type 0 where
-  pub switch-fits : f .switch < 2 ^ 16
-  pub instance-fits : f .instance .0 < 2 ^ 32
-  pub round-fits : f .round .0 < 2 ^ 32
-  pub vote-round-fits : f .«vote_round» .0 < 2 ^ 32
-  pub high-fits : f .value .high < 2 ^ 64
-  pub low-fits : f .value .low < 2 ^ 64
 
 fields-back : (f : Fields) → InRange f → fieldsIn (packetWith f) ≡ f
 unfolding fieldsIn packetWith numberAt
@@ -176,8 +167,7 @@ read-kept p m e =
     let t = passed (keepsTable (fieldsIn p)) 5 _ m (d .1) in
     record { long = eqb-true _ _ (a .0); mark = b .0; versioned = eqb-true _ _ (c .0); table = t .0 }
 
--- a packet has a reading exactly when it keeps the table
-pub reading-iff-kept : (p : List ℕ) → ((m : Message) × (readPacket p ≡ Read m)) ↔ Kept p
+pub reading-iff-kept : ReadingIffKept
 reading-iff-kept p = ((λ r. read-kept p (r .0) (r .1)), (λ k. (messageOf (fieldsIn p), kept-reads p k)))
 
 pub read-fields : (p : List ℕ) (m : Message) → readPacket p ≡ Read m → fieldsOf m ≡ fieldsIn p
@@ -191,8 +181,7 @@ pub read-packet-of : (p : List ℕ) (m : Message) → Bytes p → readPacket p �
 unfolding packetOf
 read-packet-of p m h e = let k = read-kept p m e in ap packetWith (read-fields p m e) ∙ bytes-back p h (k .long) (k .mark) (k .versioned)
 
--- what the writer took, over whatever bytes, is read as the message
-pub write-then-read : (m : Message) (q left : List ℕ) → InRange (fieldsOf m) → writePacket m q ≡ outcome (verdictNumber Done) left → readPacket left ≡ Read m
+pub write-then-read : WriteThenRead
 unfolding writePacket need_or_then_
 write-then-read m q left h e = go (eqb (length q) packetLength) (keepsTable (fieldsOf m)) refl e
   where
@@ -203,8 +192,7 @@ write-then-read m q left h e = go (eqb (length q) packetLength) (keepsTable (fie
     go true false k w = absurd (omega (arith, ap (λ x. x .answer) w))
     go false kept k w = absurd (omega (arith, ap (λ x. x .answer) w))
 
--- a packet that was read, written again over any 36 bytes, gives the bytes
-pub read-then-write : (p q : List ℕ) (m : Message) → Bytes p → length q ≡ packetLength → readPacket p ≡ Read m → writePacket m q ≡ outcome (verdictNumber Done) p
+pub read-then-write : ReadThenWrite
 unfolding writePacket need_or_then_
 read-then-write p q m h n e =
     let kept : keepsTable (fieldsOf m) ≡ true = rw (read-fields p m e) (read-kept p m e .table) in
