@@ -3,10 +3,10 @@
 use Prim.Native.Nat.{ℕ, _%_, _≤_, _<_, max}
 use mathlib.Core.Path.{_≡_}
 use native.Mathlib.Omega.{arith}
-use Rattle.basics.specs.declared.Round.{Round}
-use Rattle.basics.specs.Rounds.{theRound, ownerOf}
+use Rattle.basics.specs.Rounds.{theRound}
 use Rattle.basics.proofs.Rounds.{owner-is, owner-remainder}
-use Rattle.backup_rule.specs.Rule.{nextRound, SmallestOwned}
+use Rattle.backup_rule.specs.Rule.{nextRound}
+use Rattle.backup_rule.specs.Promises.{NextSmallest, NoneLeft}
 
 module _ (own above : ℕ) where
   next-above : above < nextRound own above
@@ -21,21 +21,18 @@ module _ (own above : ℕ) where
   unfolding nextRound
   next-least most number higher remainder = omega arith
 
-module _ (own held floor : ℕ) (least : 1 ≤ own) (most : own ≤ 3) where
-  pub next-smallest : nextRound own (max held floor) < 4294967295 → SmallestOwned own held floor (theRound (nextRound own (max held floor)))
-  next-smallest below =
-      let higher = next-above own (max held floor) in
-      record {
-        owned = owner-is (theRound (nextRound own (max held floor))) own least below (next-remainder own (max held floor) most);
-        above-held = omega (arith, higher);
-        above-floor = omega (arith, higher);
-        least = λ other mine past-held past-floor.
-            next-least own (max held floor) most (other .0) (omega arith) (owner-remainder other own least most mine .0);
-      }
+pub next-smallest : NextSmallest
+next-smallest own held floor least most below =
+    let higher = next-above own (max held floor) in
+    record {
+      owned = owner-is (theRound (nextRound own (max held floor))) own least below (next-remainder own (max held floor) most);
+      above-held = omega (arith, higher);
+      above-floor = omega (arith, higher);
+      least = λ other mine past-held past-floor. next-least own (max held floor) most (other .0) (omega arith) (owner-remainder other own least most mine .0);
+    }
 
-  -- 16: no owned round is above cell and floor
-  pub none-left : 4294967295 ≤ nextRound own (max held floor) → (r : Round) → r .0 < 4294967296 → ownerOf r ≡ own → held < r .0 → floor < r .0 → ⊥
-  none-left past r fits mine past-held past-floor =
-      let owned = owner-remainder r own least most mine in
-      let low = next-least own (max held floor) most (r .0) (omega arith) (owned .0) in
-      owned .1 (omega arith)
+pub none-left : NoneLeft
+none-left own held floor least most past r fits mine past-held past-floor =
+    let owned = owner-remainder r own least most mine in
+    let low = next-least own (max held floor) most (r .0) (omega arith) (owned .0) in
+    owned .1 (omega arith)

@@ -1,7 +1,6 @@
 -- A backup's rules at one cell: the start, and the promises that it gathers.
 -- Assumes nothing.
-use Prim.Native.Nat.{ℕ, _+_, _-_, _%_, _≤_, _<_, max}
-use mathlib.Core.Path.{_≡_}
+use Prim.Native.Nat.{ℕ, _+_, _-_, _%_, max}
 use mathlib.Core.Bool.{not, _&&_}
 use lib.Dec.{eqb, ltb}
 use Rattle.basics.specs.declared.Instance.{Instance}
@@ -9,7 +8,7 @@ use Rattle.basics.specs.declared.Round.{Round}
 use Rattle.basics.specs.declared.Value.{Value}
 use Rattle.basics.specs.declared.Verdict.the-variants.{ToAcceptors, Hold}
 use Rattle.basics.specs.Ladder.{if_then_else_, need_or_then_}
-use Rattle.basics.specs.Rounds.{theRound, none, isNone, ownerOf, atMost, sameRound}
+use Rattle.basics.specs.Rounds.{theRound, none, isNone, atMost, sameRound}
 use Rattle.basics.specs.Values.{null}
 use Rattle.messages.specs.declared.Message.the-variants.{Prepare, Propose}
 use Rattle.player.specs.Step.{Ruling, refused, sends, counts}
@@ -72,10 +71,3 @@ abbrev pub rulingOf : Ruled → Ruling Cell
 rulingOf (Sent c m) = sends ToAcceptors m c
 rulingOf (Held c) = counts Hold c
 rulingOf (Refused number) = refused number
-
--- The smallest round that this backup owns above both the cell's round and the floor.
-pub record SmallestOwned (own held floor : ℕ) (r : Round) : Type 0 where
-  pub owned : ownerOf r ≡ own
-  pub above-held : held < r .0
-  pub above-floor : floor < r .0
-  pub least : (other : Round) → ownerOf other ≡ own → held < other .0 → floor < other .0 → r .0 ≤ other .0

@@ -1,0 +1,23 @@
+-- What is promised of the round that a start takes.
+-- Assumes nothing.
+use Prim.Native.Nat.{ℕ, _≤_, _<_, _^_, max}
+use mathlib.Core.Path.{_≡_}
+use Rattle.basics.specs.declared.Round.{Round}
+use Rattle.basics.specs.Rounds.{theRound, none, ownerOf}
+use Rattle.backup_rule.specs.Rule.{nextRound}
+
+-- "The smallest round that this backup owns above both the cell's round and the floor."
+pub record SmallestOwned (own held floor : ℕ) (r : Round) : Type 0 where
+  pub owned : ownerOf r ≡ own
+  pub above-held : held < r .0
+  pub above-floor : floor < r .0
+  pub least : (other : Round) → ownerOf other ≡ own → held < other .0 → floor < other .0 → r .0 ≤ other .0
+
+-- The next round, where it is a round, is that one.
+abbrev pub NextSmallest : Type 0
+NextSmallest = (own held floor : ℕ) → 1 ≤ own → own ≤ 3 → nextRound own (max held floor) < none .0 → SmallestOwned own held floor (theRound (nextRound own (max held floor)))
+
+-- Where it is none, this backup owns no round above both: 16 is given only then.
+abbrev pub NoneLeft : Type 0
+NoneLeft = (own held floor : ℕ) → 1 ≤ own → own ≤ 3 → none .0 ≤ nextRound own (max held floor) → (r : Round) → r .0 < 2 ^ 32 → ownerOf r ≡ own
+    → held < r .0 → floor < r .0 → ⊥
