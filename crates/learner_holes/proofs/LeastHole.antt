@@ -4,7 +4,6 @@
 use Prim.Native.Nat.{ℕ, zero, suc, _+_, _≤_, _<_}
 use mathlib.Core.Path.{_≡_, refl, sym, ap, _∙_, subst}
 use mathlib.Core.Bool.{Bool, true, false, not, false≢true}
-use mathlib.Core.List.{List, [], _∷_}
 use native.Mathlib.Decide.{decLt, ℕ-discrete}
 use native.Mathlib.Numerals.{add-one}
 use native.Mathlib.Omega.{arith}
@@ -22,7 +21,8 @@ use Rattle.columns.specs.Walks.{cellsFrom}
 use Rattle.learner_tables.specs.Tables.{Tables, cellAt, cells}
 use Rattle.learner_holes.specs.declared.Hole.{Hole}
 use Rattle.learner_holes.specs.declared.Hole.the-variants as holes
-use Rattle.learner_holes.specs.Holes.{decidedEndFrom, decidedEnd, isHole, firstHoleFrom, firstHole, findHole, answered, HoleAt, Least}
+use Rattle.learner_holes.specs.Holes.{decidedEndFrom, decidedEnd, isHole, firstHoleFrom, firstHole, findHole, answered}
+use Rattle.learner_holes.specs.Promises.{HoleAt, HoleIff, Least, LeastHole, numbers, HolePromises}
 
 -- what holds of a number, and of every other one, holds of each
 here-or-elsewhere : (P : ℕ → Type 0) (number j : ℕ) → P number → ((number ≡ j → ⊥) → P j) → P j
@@ -165,14 +165,13 @@ module _ (M N : ℕ) (t : Tables) where
   least-of holes.NoHole none = λ j h. never j h (none j (omega arith) (omega (arith, h .inside, h .below)))
   least-of (holes.Refused number) impossible = impossible
 
-  pub least-hole : Least M N t (firstHole M (cellsFrom (cellAt t) 0 N))
-  least-hole = least-of (firstHole M (cellsFrom (cellAt t) 0 N)) (first-found M end t 0 N)
+pub hole-iff : HoleIff
+hole-iff M N t number = (passes-hole M N t number, hole-passes M N t number)
+
+pub least-hole : LeastHole
+least-hole M N t = least-of M N t (firstHole M (cellsFrom (cellAt t) 0 N)) (first-found M (end M N t) t 0 N)
 
 -- ---- the call
-
--- Holes: 7, 17; a hole, or none.
-abbrev pub numbers : List ℕ
-numbers = 7 ∷ 17 ∷ verdictNumber Done ∷ verdictNumber NoHole ∷ []
 
 module _ (s : Settings) (t : Tables) where
   hole-elim : (Q : Hole → Type 0) → Q (holes.Refused 7) → Q (holes.Refused 17) → Q (firstHole (s .acceptors) (cells s t)) → Q (findHole s t)
@@ -190,7 +189,6 @@ module _ (s : Settings) (t : Tables) where
       walked holes.NoHole _ = later (later (later first))
       walked (holes.Refused number) impossible = absurd impossible
 
-  -- unless a hole is found, the number lent stays
   pub hole-keeps : (before : ℕ) → (answered before (findHole s t) .answer ≡ verdictNumber Done → ⊥) → answered before (findHole s t) .left ≡ before
   unfolding answered
   hole-keeps before = kept (findHole s t)
@@ -199,3 +197,29 @@ module _ (s : Settings) (t : Tables) where
       kept (holes.Found i) other = absurd (other refl)
       kept holes.NoHole _ = refl
       kept (holes.Refused number) _ = refl
+
+  -- what the number answered tells of the hole
+  abbrev Told : (before : ℕ) → Hole → Type 0
+  Told before h =
+      (answered before h .answer ≡ verdictNumber Done → h ≡ holes.Found (theInstance (answered before h .left)))
+      × (answered before h .answer ≡ verdictNumber NoHole → h ≡ holes.NoHole)
+
+  hole-told : (before : ℕ) → Told before (findHole s t)
+  unfolding answered
+  hole-told before =
+      hole-elim (Told before) (λ other. absurd (omega (arith, other)), λ other. absurd (omega (arith, other)))
+      (λ other. absurd (omega (arith, other)), λ other. absurd (omega (arith, other)))
+      (walked (firstHole (s .acceptors) (cells s t)) (least-hole (s .acceptors) (s .instances) t))
+    where
+      walked : (h : Hole) → Least (s .acceptors) (s .instances) t h → Told before h
+      walked (holes.Found i) _ = (λ _. refl, λ other. absurd (omega (arith, other)))
+      walked holes.NoHole _ = (λ other. absurd (omega (arith, other)), λ _. refl)
+      walked (holes.Refused number) impossible = absurd impossible
+
+pub hole-promises : (s : Settings) (t : Tables) (before : ℕ) → HolePromises s t before
+hole-promises s t before = record {
+  numbers-are = hole-numbers s t before;
+  keeps = hole-keeps s t before;
+  done-tells = hole-told s t before .0;
+  no-hole-tells = hole-told s t before .1;
+}

@@ -1,8 +1,7 @@
 -- Holes: undecided instances below the highest decided one.
 -- Assumes nothing.
-use Prim.Native.Nat.{ℕ, _+_, _≤_, _<_}
-use mathlib.Core.Path.{_≡_}
-use mathlib.Core.Bool.{Bool, true, false, not, _&&_}
+use Prim.Native.Nat.{ℕ, _+_}
+use mathlib.Core.Bool.{Bool, not, _&&_}
 use mathlib.Core.List.{List, [], _∷_}
 use lib.Dec.{ltb}
 use Rattle.basics.specs.declared.Verdict.the-variants.{Done, NoHole}
@@ -13,7 +12,7 @@ use Rattle.basics.specs.Verdict.{verdictNumber}
 use Rattle.quorum.specs.declared.Settings.{Settings}
 use Rattle.learner_cell.specs.declared.Cell.{Cell}
 use Rattle.learner_cell.specs.Cell.{isDecided}
-use Rattle.learner_tables.specs.Tables.{Tables, cellAt, learnerAllowed, cells, allPossible}
+use Rattle.learner_tables.specs.Tables.{Tables, learnerAllowed, cells, allPossible}
 use Rattle.learner_holes.specs.declared.Hole.{Hole}
 use Rattle.learner_holes.specs.declared.Hole.the-variants as holes
 
@@ -50,17 +49,3 @@ unfoldable pub answered : (before : ℕ) → Hole → Outcome ℕ
 answered before (holes.Found instance) = outcome (verdictNumber Done) (instance .0)
 answered before holes.NoHole = outcome (verdictNumber NoHole) before
 answered before (holes.Refused number) = outcome number before
-
--- A hole in the paper's words: an undecided instance below a decided one, and so below the highest.
-pub record HoleAt (M N : ℕ) (t : Tables) (number : ℕ) : Type 0 where
-  pub undecided : isDecided M (cellAt t number) ≡ false
-  pub above : ℕ
-  pub inside : above < N
-  pub below : number < above
-  pub decided : isDecided M (cellAt t above) ≡ true
-
--- What the first hole says: a number, that it is the smallest hole; "none", that there is none.
-abbrev pub Least : (M N : ℕ) → Tables → Hole → Type 0
-Least M N t (holes.Found instance) = HoleAt M N t (instance .0) × ((other : ℕ) → HoleAt M N t other → instance .0 ≤ other)
-Least M N t holes.NoHole = (other : ℕ) → HoleAt M N t other → ⊥
-Least M N t (holes.Refused number) = ⊥
