@@ -19,7 +19,8 @@ use Rattle.quorum.specs.declared.Settings.{Settings}
 use Rattle.columns.specs.Walks.{cellsFrom}
 use Rattle.learner_cell.specs.Cell.{isDecided, valueOf}
 use Rattle.learner_tables.specs.Tables.{Tables, cellAt, cells}
-use Rattle.learner_delivery.specs.Delivery.{delivered, writtenTo, deliver, BeforeUndecided}
+use Rattle.learner_delivery.specs.Delivery.{delivered, writtenTo, deliver}
+use Rattle.learner_delivery.specs.Promises.{DeliveredBefore, refusals, verdicts, DeliverPromises}
 
 -- the same from an index on
 record Before (M : ℕ) (t : Tables) (index count : ℕ) (values : List Value) : Type 0 where
@@ -62,7 +63,7 @@ before-from M t index (suc count) =
         each-at zero low = let same : index ≡ index + 0 = omega arith in ap (λ k. valueOf M (cellAt t k)) same
         each-at (suc i) low = let same : suc index + i ≡ index + suc i = omega arith in rest .each i (omega arith) ∙ ap (λ k. valueOf M (cellAt t k)) same
 
-pub delivered-before : (s : Settings) (t : Tables) → BeforeUndecided (s .acceptors) (s .instances) t (delivered (s .acceptors) (cells s t))
+pub delivered-before : DeliveredBefore
 delivered-before s t =
     let b = before-from (s .acceptors) t 0 (s .instances) in
     let from-0 : (i : ℕ) → 0 + i ≡ i = λ i. omega arith in
@@ -74,13 +75,6 @@ delivered-before s t =
     }
 
 -- ---- the shared promises
-
--- Delivery: 7, 1, 17.
-abbrev pub refusals : List ℕ
-refusals = 7 ∷ 1 ∷ 17 ∷ []
-
-abbrev pub verdicts : List ℕ
-verdicts = verdictNumber Done ∷ []
 
 module _ (s : Settings) (t : Tables) (buffer : List ℕ) (count : ℕ) where
   deliver-elim : (Q : Outcome (Lent ℕ) → Type 0) → Q (unchanged buffer count 7) → Q (unchanged buffer count 1) → Q (unchanged buffer count 17)
@@ -99,3 +93,6 @@ module _ (s : Settings) (t : Tables) where
   deliver-refusal-keeps-all buffer count =
       deliver-elim s t buffer count (λ o. isVerdict (o .answer) ≡ false → o ≡ unchanged buffer count (o .answer)) (λ _. refl) (λ _. refl) (λ _. refl)
       (λ e. absurd (false≢true (sym e)))
+
+pub deliver-promises : (s : Settings) (t : Tables) → DeliverPromises s t
+deliver-promises s t = record { numbers-are = deliver-numbers s t; refusal-keeps-all = deliver-refusal-keeps-all s t }

@@ -1,24 +1,21 @@
 -- Delivery: the values of instances 0, 1, .. before the first undecided one.
 -- Assumes nothing.
-use Prim.Native.Nat.{ℕ, _*_, _≤_, _<_}
-use mathlib.Core.Path.{_≡_}
-use mathlib.Core.Bool.{true, false}
+use Prim.Native.Nat.{ℕ, _*_}
 use mathlib.Core.List.{List, [], _∷_, _++_}
 use lib.Dec.{eqb}
-use lib.ListN.{length, getD}
+use lib.ListN.{length}
 use Rattle.numbers.specs.BigEndian.{toBytes}
 use Rattle.numbers.specs.Fronts.{withFront}
 use Rattle.basics.specs.declared.Value.{Value}
 use Rattle.basics.specs.declared.Verdict.the-variants.{Done}
 use Rattle.basics.specs.Ladder.{if_then_else_, need_or_then_}
 use Rattle.basics.specs.Outcome.{Outcome, outcome, Lent, lent}
-use Rattle.basics.specs.Values.{null}
 use Rattle.basics.specs.Verdict.{verdictNumber}
 use Rattle.player.specs.Step.{unchanged}
 use Rattle.quorum.specs.declared.Settings.{Settings}
 use Rattle.learner_cell.specs.declared.Cell.{Cell}
 use Rattle.learner_cell.specs.Cell.{isDecided, valueOf}
-use Rattle.learner_tables.specs.Tables.{Tables, cellAt, learnerAllowed, cells, allPossible}
+use Rattle.learner_tables.specs.Tables.{Tables, learnerAllowed, cells, allPossible}
 
 -- The delivered list holds the values of instances 0, 1, .. before the first undecided.
 unfoldable pub delivered : (M : ℕ) → List Cell → List Value
@@ -41,10 +38,3 @@ deliver s t buffer count =
     need eqb (length buffer) (16 * s .instances) or unchanged buffer count 1 then
     need allPossible (s .acceptors) (cells s t) or unchanged buffer count 17 then
     outcome (verdictNumber Done) (writtenTo buffer (delivered (s .acceptors) (cells s t)))
-
--- A list of values that are just those of the instances before the first undecided one.
-pub record BeforeUndecided (M N : ℕ) (t : Tables) (values : List Value) : Type 0 where
-  pub at-most : length values ≤ N
-  pub decided : (i : ℕ) → i < length values → isDecided M (cellAt t i) ≡ true
-  pub each : (i : ℕ) → i < length values → getD values i null ≡ valueOf M (cellAt t i)
-  pub undecided : length values < N → isDecided M (cellAt t (length values)) ≡ false
