@@ -1,7 +1,7 @@
 -- What is saved is 8 + 21N bytes. The promises of every call, for saving and reading: each acts or refuses by its numbers, a refusal keeps all, and each acts exactly when its tests pass.
 -- Saving changes no table. Reading leaves tables of N cells that are all possible, and whose numbers fit their widths.
 -- Assumes nothing.
-use Prim.Native.Nat.{ℕ, _≤_}
+use Prim.Native.Nat.{ℕ}
 use mathlib.Core.Path.{_≡_, refl, sym, ap, _∙_}
 use mathlib.Core.Bool.{true, false, false≢true}
 use mathlib.Core.List.{List, [], _∷_}
@@ -17,39 +17,17 @@ use Rattle.player.specs.Promises.{OneOf, first, NumbersAre, RefusalKeepsAll, Fi
 use Rattle.player.specs.Step.{unchanged}
 use Rattle.player.proofs.Numbers.{one-of}
 use Rattle.quorum.specs.declared.Settings.{Settings}
-use Rattle.learner_tables.specs.Tables.{Tables, cellAt, cells, allPossible, learnerAllowed, Sized, Fitting}
-use Rattle.learner_file.specs.File.{headerLength, savedLength, marked, versionIn, sameSettings, tablesOf}
+use Rattle.learner_tables.specs.Tables.{Tables, cellAt, cells, allPossible, Sized, Fitting}
+use Rattle.learner_file.specs.File.{headerLength, savedLength, versionIn, tablesOf}
 use Rattle.learner_file.proofs.Laws.{length-from, length-file, saved-sized, cells-saved, saved-fitting}
 use Rattle.learner_saved.specs.Saved.{version, savedTable, savedCells, save, readSaved}
+use Rattle.learner_saved.specs.Promises.{LengthSaved, save-refusals, read-refusals, Savable, Readable, SavePromises, ReadPromises}
 
--- Length 8 + 21N.
-pub length-saved : (s : Settings) (t : Tables) → length (savedTable s t) ≡ savedLength (s .instances)
+pub length-saved : LengthSaved
 unfolding savedTable
 length-saved s t = omega (arith, length-file version s (cells s t), length-from (cellAt t) 0 (s .instances))
 
 -- ---- the ways out, and what the last of them brings
-
-abbrev pub save-refusals : List ℕ
-save-refusals = 7 ∷ 1 ∷ 17 ∷ []
-
-abbrev pub read-refusals : List ℕ
-read-refusals = 7 ∷ 1 ∷ 2 ∷ 3 ∷ 17 ∷ []
-
--- the tests that saving makes
-pub record Savable (s : Settings) (buffer : List ℕ) (t : Tables) : Type 0 where
-  pub fine : learnerAllowed s t ≡ true
-  pub whole : length buffer ≡ savedLength (s .instances)
-  pub possible : allPossible (s .acceptors) (cells s t) ≡ true
-
--- and those that reading makes
-pub record Readable (s : Settings) (saved : List ℕ) (t : Tables) : Type 0 where
-  pub fine : learnerAllowed s t ≡ true
-  pub holds : headerLength ≤ length saved
-  pub mark : marked saved ≡ true
-  pub versioned : versionIn saved ≡ version
-  pub like : sameSettings s saved ≡ true
-  pub whole : length saved ≡ savedLength (s .instances)
-  pub possible : allPossible (s .acceptors) (savedCells s saved) ≡ true
 
 module _ (s : Settings) (bytes : List ℕ) (t : Tables) (P : Outcome (Lent Tables) → Type 0) where
   -- what holds of every refusal, and of the outcome once the tests have passed, holds of the call
@@ -156,3 +134,24 @@ module _ (s : Settings) where
   pub read-fitting : FittingStays (readSaved s) Fitting
   read-fitting saved t bytes fits =
       read-elim s saved t (λ o. Fitting (o .left .tables)) (λ number _ _. fits) (λ _. saved-fitting saved bytes (s .instances))
+
+pub save-promises : (s : Settings) → SavePromises s
+save-promises s = record {
+  numbers-are = save-numbers s;
+  refusal-keeps-all = save-refusal-keeps-all s;
+  acts = savable-saves s;
+  only-then = saved-savable s;
+  keeps-tables = save-keeps-tables s;
+}
+
+pub read-promises : (s : Settings) → ReadPromises s
+read-promises s = record {
+  numbers-are = read-numbers s;
+  refusal-keeps-all = read-refusal-keeps-all s;
+  acts = readable-reads s;
+  only-then = read-readable s;
+  keeps-bytes = read-keeps-bytes s;
+  sized-stays = read-sized s;
+  all-possible = read-possible s;
+  fitting-stays = read-fitting s;
+}

@@ -1,10 +1,9 @@
 -- Saving and then reading gives the table; reading and then saving gives the bytes: a table's cells and its file match one to one.
 -- Assumes nothing.
-use Prim.Native.Nat.{ℕ, _+_, _*_, _≤_, _<_}
+use Prim.Native.Nat.{ℕ, _+_, _*_, _≤_}
 use mathlib.Core.Path.{_≡_, sym, ap, _∙_}
 use mathlib.Core.Bool.{true}
 use mathlib.Core.List.{List, _++_}
-use mathlib.Core.Logic.{_↔_}
 use native.Mathlib.Omega.{arith}
 use lib.Dec.{lit<}
 use lib.ListN.{length, getD}
@@ -14,31 +13,28 @@ use Rattle.basics.specs.declared.Verdict.the-variants.{Done}
 use Rattle.basics.specs.Outcome.{outcome, lent}
 use Rattle.basics.specs.Verdict.{verdictNumber}
 use Rattle.quorum.specs.declared.Settings.{Settings}
-use Rattle.quorum.specs.Quorum.{Member}
 use Rattle.learner_cell.specs.Cell.{freshCell}
 use Rattle.learner_tables.specs.Tables.{Tables, cellAt, cells, allPossible, isAllowed, learnerAllowed, Fitting}
 use Rattle.learner_tables.proofs.Laws.{allowed-tables, fitting-at}
 use Rattle.learner_file.specs.File.{headerLength, cellLength, savedLength, header, cellIn, savedCell, cellsBytes, tablesOf}
 use Rattle.learner_file.proofs.Laws.{length-header, cell-from, tables-of-cells, saved-sized, cells-saved}
 use Rattle.learner_file.proofs.RoundTrip.{header-marked, header-version, header-settings, header-back, cells-back, cells-bytes-back}
-use Rattle.learner_saved.specs.Saved.{version, savedTable, savedCells, save, readSaved}
-use Rattle.learner_saved.proofs.Promises.{length-saved, Savable, Readable, savable-saves, saved-savable, readable-reads, read-readable}
+use Rattle.learner_saved.specs.Saved.{version, savedTable, savedCells, save}
+use Rattle.learner_saved.specs.Promises.{SaveThenRead, ReadThenSave, SavedCellStands, SetBits, Savable, Readable}
+use Rattle.learner_saved.proofs.Promises.{length-saved, savable-saves, saved-savable, readable-reads, read-readable}
 
 -- the saved cells of a saved table are its cells
 pub saved-cells-back : (s : Settings) (t : Tables) → Fitting t → savedCells s (savedTable s t) ≡ cells s t
 unfolding savedTable
 saved-cells-back s t fits = cells-back (cellAt t) (λ index. fitting-at t index fits) (header version s) 0 (s .instances) (length-header version s)
 
--- where the cell of an index stands in a saved table
-pub saved-cell-stands : (s : Settings) (t : Tables) → Fitting t → (index : ℕ) → index < s .instances → savedCell (savedTable s t) index ≡ cellAt t index
+pub saved-cell-stands : SavedCellStands
 saved-cell-stands s t fits index inside =
     let place : 0 + index ≡ index = omega arith in
     ap (savedCell (savedTable s t)) (sym place) ∙ sym (cell-from (savedCell (savedTable s t)) 0 (s .instances) index inside)
     ∙ ap (λ cs. getD cs index freshCell) (saved-cells-back s t fits) ∙ cell-from (cellAt t) 0 (s .instances) index inside ∙ ap (cellAt t) place
 
--- Bit i of a saved cell's set is acceptor i.
-pub set-bits : (s : Settings) (t : Tables) → Fitting t → (index acceptor : ℕ) → index < s .instances
-    → Member acceptor (getD (savedTable s t) (savedLength index + 4) 0) ↔ Member acceptor (cellAt t index .set)
+pub set-bits : SetBits
 unfolding cellIn
 set-bits s t fits index acceptor inside =
     let same : getD (savedTable s t) (savedLength index + 4) 0 ≡ cellAt t index .set = ap (λ c. c .set) (saved-cell-stands s t fits index inside) in
@@ -60,9 +56,7 @@ saved-readable s t other buffer fits fine tests =
       possible = ap (allPossible (s .acceptors)) (saved-cells-back s t fits) ∙ tests .possible;
     }
 
--- Saving and then reading into any lent table of the same sizes gives the table.
-pub save-then-read : (s : Settings) (buffer : List ℕ) (t other : Tables) → Fitting t → learnerAllowed s other ≡ true → save s buffer t .answer ≡ verdictNumber Done
-    → readSaved s (save s buffer t .left .packet) other ≡ outcome (verdictNumber Done) (lent (save s buffer t .left .packet) t)
+pub save-then-read : SaveThenRead
 save-then-read s buffer t other fits fine saved =
     let tests = saved-savable s buffer t saved in
     let given : tablesOf (savedCells s (savedTable s t)) ≡ t =
@@ -81,9 +75,7 @@ read-bytes-back s saved other bytes tests =
     ap (λ cs. header version s ++ cellsBytes cs) (cells-saved saved n) ∙ (λ i. headed i ++ cells-bytes-back saved bytes 0 n inside i)
     ∙ sym (bytesAt-add saved 0 headerLength (cellLength * n)) ∙ written-out (savedLength n) saved (tests .whole)
 
--- Reading and then saving, to any buffer of that length, gives the bytes.
-pub read-then-save : (s : Settings) (saved buffer : List ℕ) (other : Tables) → Bytes saved → length buffer ≡ length saved → readSaved s saved other .answer ≡ verdictNumber Done
-    → save s buffer (readSaved s saved other .left .tables) ≡ outcome (verdictNumber Done) (lent saved (readSaved s saved other .left .tables))
+pub read-then-save : ReadThenSave
 read-then-save s saved buffer other bytes long read =
     let tests = read-readable s saved other read in
     let t = tablesOf (savedCells s saved) in
