@@ -11,20 +11,18 @@ use lib.ListN.{length}
 use borrow.Author.Tests.{eqb-true, eq-eqb}
 use Rattle.basics.specs.declared.Place.the-variants.{At}
 use Rattle.basics.specs.declared.Value.{Value}
-use Rattle.basics.specs.declared.Verdict.the-variants.{ToAcceptors}
 use Rattle.basics.specs.Ladder.{need_or_then_}
 use Rattle.basics.specs.Outcome.{Outcome, outcome, Lent, lent}
-use Rattle.basics.specs.Rounds.{theInstance, theRound}
-use Rattle.basics.specs.Verdict.{verdictNumber}
+use Rattle.basics.specs.Rounds.{theInstance}
 use Rattle.basics.proofs.Ladder.{both-true, and-true}
 use Rattle.basics.proofs.Places.{PlacedBy}
 use Rattle.messages.specs.declared.Message.{Message}
-use Rattle.messages.specs.declared.Message.the-variants.{Request, Propose}
+use Rattle.messages.specs.declared.Message.the-variants.{Request}
 use Rattle.messages.specs.Message.{whenRequest}
 use Rattle.messages.proofs.Eliminators.{request-elim}
 use Rattle.wire.specs.declared.Reading.{Reading}
 use Rattle.wire.specs.declared.Reading.the-variants.{Read, Refused}
-use Rattle.wire.specs.Packet.{readPacket, packetOf}
+use Rattle.wire.specs.Packet.{readPacket}
 use Rattle.player.specs.Step.{Ruling, refused, sends, counts, unchanged, afterReading, afterPlacing, ruled, ruleAt, act, step}
 use Rattle.player.proofs.Steps.{step-rules}
 use Rattle.quorum.specs.declared.Settings.{Settings}
@@ -34,6 +32,7 @@ use Rattle.primary_rule.specs.declared.Cell.{Cell}
 use Rattle.primary_rule.specs.Rule.{cell, proposing}
 use Rattle.primary_rule.proofs.Laws.{take-elim, proposes, CellFits}
 use Rattle.primary.specs.Primary.{cellAt, withCell, isAllowed, primaryAllowed, Fitting, place, rule, primary, primaryStep, primaryByReference, primaryRequest, asSlice}
+use Rattle.primary.specs.Promises.{proposed}
 
 -- ---- the record as a slice
 
@@ -80,10 +79,6 @@ pub placed-first : (m : Message) (index : ℕ) → place m ≡ At index → inde
 placed-first m = request-elim (λ p. (index : ℕ) → p ≡ At index → index ≡ 0) _ _ m (λ switch value _ index e. cc) (λ index e. let z : _≡_ {A = ℕ} 0 1 = cc in absurd (omega arith))
 
 -- ---- the step where a request is taken
-
--- what the primary answers and leaves where it proposes a value for an instance
-abbrev pub proposed : {Tables : Type 0} → (instance : ℕ) → Value → Tables → Outcome (Lent Tables)
-proposed instance value tables = outcome (verdictNumber ToAcceptors) (lent (packetOf (Propose (theInstance instance) (theRound 0) value)) tables)
 
 module _ (s : Settings) (packet : List ℕ) (switch : ℕ) (value : Value) (fine : allowed s ≡ true) (reads : readPacket packet ≡ Read (Request switch value)) where
   pub primary-proposes : (next : ℕ) → next < s .instances → primaryStep s packet (next ∷ []) ≡ proposed next value ((next + 1) ∷ [])

@@ -2,25 +2,22 @@
 -- cell stays possible, and what is sent keeps the packet table; and what a repeated request gets. Each is a theorem of any player, from the facts of this
 -- player's rule.
 -- Assumes nothing.
-use Prim.Native.Nat.{ℕ, _+_, _<_}
+use Prim.Native.Nat.{ℕ, _+_}
 use mathlib.Core.Path.{_≡_, refl, ap, _∙_, subst}
 use mathlib.Core.Bool.{true, false}
-use mathlib.Core.List.{List, [], _∷_}
+use mathlib.Core.List.{[], _∷_}
 use native.Mathlib.Omega.{arith}
 use lib.ListN.{length}
 use Rattle.basics.specs.declared.Value.{Value}
-use Rattle.basics.specs.declared.Verdict.the-variants.{ToAcceptors}
 use Rattle.basics.specs.Rounds.{theInstance, theRound}
-use Rattle.basics.specs.Verdict.{verdictNumber, saysSend}
+use Rattle.basics.specs.Verdict.{saysSend}
 use Rattle.basics.proofs.Places.{PlacedBy}
 use Rattle.basics.proofs.Rounds.{zero-owned}
 use Rattle.messages.specs.declared.Message.{Message}
 use Rattle.messages.specs.declared.Message.the-variants.{Request, Propose}
-use Rattle.wire.specs.declared.Reading.the-variants.{Read}
-use Rattle.wire.specs.Packet.{readPacket}
 use Rattle.wire.proofs.Laws.{Writable}
 use Rattle.wire.proofs.Widths.{propose-writable, request-value-fits}
-use Rattle.player.specs.Promises.{OneOf, first, packetRefusals, NumbersAre, RefusalKeepsAll, UsesCell, OtherCellsStay, PossibleStays, SendsKept, FittingStays}
+use Rattle.player.specs.Promises.{OneOf, first, NumbersAre, RefusalKeepsAll, UsesCell, OtherCellsStay, PossibleStays, SendsKept, FittingStays}
 use Rattle.player.proofs.Numbers.{one-of}
 use Rattle.player.proofs.Promises.{RuledBy, NextCell, SendsOnly, next-cell, refusal-keeps-all, numbers-are, other-cells-stay, possible-stays, sends-kept, fitting-stays, tables-hold}
 use Rattle.quorum.specs.declared.Settings.{Settings}
@@ -30,14 +27,8 @@ use Rattle.primary_rule.specs.declared.Cell.{Cell}
 use Rattle.primary_rule.specs.Rule.{cell, possible}
 use Rattle.primary_rule.proofs.Laws.{risen-possible, CellFits}
 use Rattle.primary.specs.Primary.{cellAt, withCell, Fitting, place, rule, primary, primaryStep, primaryByReference, primaryRequest}
-use Rattle.primary.proofs.Laws.{allowed-next, cell-there, cell-apart, fitting-at, fitting-with, rule-elim, place-elim, placed-first, proposed, primary-proposes, request-proposes}
-
--- Order for a packet: 7, 1 to 5, 6, 17, 12. A request names no instance and no sender to judge, so 8 and 9 of the common order never occur.
-abbrev pub refusals : List ℕ
-refusals = packetRefusals (17 ∷ 12 ∷ [])
-
-abbrev pub verdicts : List ℕ
-verdicts = verdictNumber ToAcceptors ∷ []
+use Rattle.primary.specs.Promises.{refusals, verdicts, StepPromises, RequestPromises, proposed, RepeatedStep, RepeatedRequest}
+use Rattle.primary.proofs.Laws.{allowed-next, cell-there, cell-apart, fitting-at, fitting-with, rule-elim, place-elim, placed-first, primary-proposes, request-proposes}
 
 -- ---- what is stored and sent
 
@@ -130,23 +121,37 @@ module _ (s : Settings) where
   unfolding primaryRequest primaryByReference
   request-fitting-stays = fitting-stays (primaryByReference s) CellFits (λ c m _ fine _ _. next-fits s c m fine)
 
+-- ---- all of them
+
+pub step-promises : (s : Settings) → StepPromises s
+step-promises s = record {
+  numbers-are = primary-numbers s;
+  refusal-keeps-all = primary-refusal-keeps-all s;
+  other-cells-stay = primary-other-cells-stay s;
+  possible-stays = primary-possible-stays s;
+  sends-kept = primary-sends-kept s;
+  fitting-stays = primary-fitting-stays s;
+}
+
+pub request-promises : (s : Settings) → RequestPromises s
+request-promises s = record {
+  numbers-are = request-numbers s;
+  refusal-keeps-all = request-refusal-keeps-all s;
+  possible-stays = request-possible-stays s;
+  sends-kept = λ packet c bytes fits. request-sends-kept s packet c bytes (record { next-fits = fits });
+  fitting-stays = λ packet c bytes fits. request-fitting-stays s packet c bytes (record { next-fits = fits }) .next-fits;
+}
+
 -- ---- a repeated request
 
--- Two steps on the same bytes, the second on the record that the first left: a second instance for the same value.
-module _ (s : Settings) (packet : List ℕ) (next switch : ℕ) (value : Value) (fine : allowed s ≡ true) (reads : readPacket packet ≡ Read (Request switch value))
-    (below : next + 1 < s .instances) where
-  pub repeated-step :
-      (primaryStep s packet (next ∷ []) ≡ proposed next value ((next + 1) ∷ []))
-      × (primaryStep s packet (primaryStep s packet (next ∷ []) .left .tables) ≡ proposed (next + 1) value ((next + 2) ∷ []))
-  repeated-step =
-      let once = primary-proposes s packet switch value fine reads next (omega arith) in
-      let twice = primary-proposes s packet switch value fine reads (next + 1) below in
-      (once, ap (λ o. primaryStep s packet (o .left .tables)) once ∙ twice ∙ ap (λ n. proposed (next + 1) value (n ∷ [])) (omega arith))
+pub repeated-step : RepeatedStep
+repeated-step s packet next switch value asked =
+    let once = primary-proposes s packet switch value (asked .fine) (asked .reads) next (omega (arith, asked .below)) in
+    let twice = primary-proposes s packet switch value (asked .fine) (asked .reads) (next + 1) (asked .below) in
+    (once, ap (λ o. primaryStep s packet (o .left .tables)) once ∙ twice ∙ ap (λ n. proposed (next + 1) value (n ∷ [])) (omega arith))
 
-  pub repeated-request :
-      (primaryRequest s packet (cell (theInstance next)) ≡ proposed next value (cell (theInstance (next + 1))))
-      × (primaryRequest s packet (primaryRequest s packet (cell (theInstance next)) .left .tables) ≡ proposed (next + 1) value (cell (theInstance (next + 2))))
-  repeated-request =
-      let once = request-proposes s packet switch value fine reads next (omega arith) in
-      let twice = request-proposes s packet switch value fine reads (next + 1) below in
-      (once, ap (λ o. primaryRequest s packet (o .left .tables)) once ∙ twice ∙ ap (λ n. proposed (next + 1) value (cell (theInstance n))) (omega arith))
+pub repeated-request : RepeatedRequest
+repeated-request s packet next switch value asked =
+    let once = request-proposes s packet switch value (asked .fine) (asked .reads) next (omega (arith, asked .below)) in
+    let twice = request-proposes s packet switch value (asked .fine) (asked .reads) (next + 1) (asked .below) in
+    (once, ap (λ o. primaryRequest s packet (o .left .tables)) once ∙ twice ∙ ap (λ n. proposed (next + 1) value (cell (theInstance n))) (omega arith))
