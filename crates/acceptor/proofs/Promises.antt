@@ -9,15 +9,14 @@ use Rattle.columns.specs.Columns.{roundAt, valueAt}
 use Rattle.basics.specs.declared.Instance.{Instance}
 use Rattle.basics.specs.declared.Round.{Round}
 use Rattle.basics.specs.declared.Value.{Value}
-use Rattle.basics.specs.declared.Verdict.the-variants.{ToLeader, ToLearners}
 use Rattle.basics.specs.Rounds.{atMost}
-use Rattle.basics.specs.Verdict.{verdictNumber, saysSend}
+use Rattle.basics.specs.Verdict.{saysSend}
 use Rattle.messages.specs.declared.Message.the-variants.{Prepare, Promise, Propose, Vote}
 use Rattle.messages.specs.Table.{keepsTable}
 use Rattle.messages.specs.Message.{fieldsOf}
 use Rattle.wire.proofs.Laws.{Writable, prepare-owned, propose-owned}
 use Rattle.wire.proofs.Widths.{prepare-fits, propose-fits, propose-value-fits, promise-writable, vote-writable}
-use Rattle.player.specs.Promises.{OneOf, first, later, packetRefusals, NumbersAre, RefusalKeepsAll, UsesCell, OtherCellsStay, PossibleStays, SendsKept, FittingStays}
+use Rattle.player.specs.Promises.{OneOf, first, later, NumbersAre, RefusalKeepsAll, UsesCell, OtherCellsStay, PossibleStays, SendsKept, FittingStays}
 use Rattle.player.proofs.Numbers.{one-of}
 use Rattle.player.proofs.Promises.{RuledBy, NextCell, SendsOnly, refusal-keeps-all, numbers-are, other-cells-stay, possible-stays, sends-kept, fitting-stays, tables-hold, any-cell}
 use Rattle.quorum.specs.declared.Settings.{Settings}
@@ -25,6 +24,7 @@ use Rattle.acceptor_rule.specs.Rule.{cell, possible, orderOf}
 use Rattle.acceptor_rule.proofs.Laws.{vote-up-to-later, promised-possible, voted-possible}
 use Rattle.acceptor_tables.specs.Tables.{Tables, cellAt, withCell, Sized, Fitting}
 use Rattle.acceptor.specs.Acceptor.{ruleOf, acceptor, acceptorStep}
+use Rattle.acceptor.specs.Promises.{refusals, verdicts, StepPromises}
 use Rattle.acceptor_tables.proofs.Laws.{allowed-tables, index-within, cell-there, cell-apart, fitting-at, fitting-with, sized-with}
 use Rattle.acceptor.proofs.Laws.{rule-elim, place-elim, placed-below}
 
@@ -42,13 +42,6 @@ pub vote-sent : {own : ℕ} → own ≤ 6 → (i : Instance) (r : Round) (v : Va
 vote-sent {own} few i r v w = vote-writable own i r v few (propose-fits i r v w) (propose-value-fits i r v w) (propose-owned i r v (w .kept))
 
 -- ---- the promises
-
--- Order for a packet: 7, 1 to 5, 6, 8, 17, 10.
-abbrev pub refusals : List ℕ
-refusals = packetRefusals (8 ∷ 17 ∷ 10 ∷ [])
-
-abbrev pub verdicts : List ℕ
-verdicts = verdictNumber ToLeader ∷ verdictNumber ToLearners ∷ []
 
 module _ (s : Settings) (own : ℕ) where
   pub acceptor-numbers : NumbersAre (acceptorStep s own) refusals verdicts
@@ -106,3 +99,14 @@ module _ (s : Settings) (own : ℕ) where
   unfolding acceptorStep acceptor
   acceptor-sized-stays packet t {n} =
       tables-hold (acceptor s own) (Sized n) packet t (λ m i _ _ _ before. any-cell (λ c. Sized n (withCell t i c)) (λ c. sized-with t i c before) (ruleOf own (cellAt t i) (orderOf m)))
+
+pub step-promises : (s : Settings) (own : ℕ) → StepPromises s own
+step-promises s own = record {
+  numbers-are = acceptor-numbers s own;
+  refusal-keeps-all = acceptor-refusal-keeps-all s own;
+  other-cells-stay = acceptor-other-cells-stay s own;
+  possible-stays = acceptor-possible-stays s own;
+  sends-kept = acceptor-sends-kept s own;
+  fitting-stays = acceptor-fitting-stays s own;
+  sized-stays = acceptor-sized-stays s own;
+}
