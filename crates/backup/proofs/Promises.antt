@@ -12,10 +12,8 @@ use Rattle.basics.specs.declared.Instance.{Instance}
 use Rattle.basics.specs.declared.Place.the-variants.{At}
 use Rattle.basics.specs.declared.Round.{Round}
 use Rattle.basics.specs.declared.Value.{Value}
-use Rattle.basics.specs.declared.Verdict.the-variants.{ToAcceptors, Hold}
 use Rattle.basics.specs.Rounds.{theRound, ownerOf}
-use Rattle.basics.specs.Places.{placed}
-use Rattle.basics.specs.Verdict.{verdictNumber, isVerdict, saysSend}
+use Rattle.basics.specs.Verdict.{isVerdict, saysSend}
 use Rattle.basics.proofs.Ladder.{if-elim}
 use Rattle.basics.proofs.Places.{placed-index}
 use Rattle.basics.proofs.Rounds.{owned-or-0, backup-owned}
@@ -26,7 +24,7 @@ use Rattle.wire.proofs.Laws.{promise-sender, promise-votes, Writable}
 use Rattle.wire.proofs.Widths.{promise-fits, promise-vote-round-fits, promise-value-fits, propose-writable, prepare-writable}
 use Rattle.wire.specs.Packet.{Kept}
 use Rattle.player.specs.Step.{unchanged}
-use Rattle.player.specs.Promises.{OneOf, first, later, packetRefusals, NumbersAre, RefusalKeepsAll, UsesCell, OtherCellsStay, PossibleStays, SendsKept, FittingStays, ActsOrRefuses, refuses}
+use Rattle.player.specs.Promises.{OneOf, first, later, NumbersAre, RefusalKeepsAll, UsesCell, OtherCellsStay, PossibleStays, SendsKept, FittingStays, ActsOrRefuses, refuses}
 use Rattle.player.proofs.Numbers.{one-of}
 use Rattle.player.proofs.Promises.{RuledBy, NextCell, SendsOnly, refusal-keeps-all, numbers-are, other-cells-stay, possible-stays, sends-kept, fitting-stays, tables-hold, any-cell}
 use Rattle.player.proofs.Promises.{ruled-keeps, ruled-numbers, ruled-tables, ruled-sends, stored-possible}
@@ -40,6 +38,7 @@ use Rattle.backup_rule.proofs.Next.{next-smallest}
 use Rattle.backup_tables.specs.Tables.{Tables, cellAt, withCell, backupAllowed, Sized, Fitting}
 use Rattle.backup_tables.proofs.Laws.{allowed-tables, index-within, cell-there, cell-apart, fitting-at, fitting-with, sized-with}
 use Rattle.backup.specs.Backup.{rule, backup, backupStep, backupStart}
+use Rattle.backup.specs.Promises.{refusals, verdicts, StepPromises, start-refusals, start-verdicts, StartUses, StartPromises}
 use Rattle.backup.proofs.Laws.{rule-elim, place-elim, placed-below, start-ruling, start-elim}
 
 -- ---- the step
@@ -59,13 +58,6 @@ module _ (s : Settings) (own : ℕ) (t : Tables) (index a : ℕ) (i : Instance) 
       propose-writable i (counting c a b v .round) (chosen (counting c a b v))
       (record { instance-fits = promise-fits a i r b v w .instance-fits; round-fits = next .round-fits }) (chosen-fits (counting c a b v) next)
       (owned-or-0 _ (backup-owned (counting c a b v .round) own (few .own-least) (few .own-most) mine))
-
--- Order for a packet: 7, 1 to 5, 6, 8, 9, 17, 11, 15.
-abbrev pub refusals : List ℕ
-refusals = packetRefusals (8 ∷ 9 ∷ 17 ∷ 11 ∷ 15 ∷ [])
-
-abbrev pub verdicts : List ℕ
-verdicts = verdictNumber ToAcceptors ∷ verdictNumber Hold ∷ []
 
 module _ (s : Settings) (own : ℕ) where
   pub backup-numbers : NumbersAre (backupStep s own) refusals verdicts
@@ -126,18 +118,7 @@ module _ (s : Settings) (own : ℕ) where
 
 -- ---- the start
 
--- Order for a start: 7, 1, 8, 17, 16.
-abbrev pub start-refusals : List ℕ
-start-refusals = 7 ∷ 1 ∷ 8 ∷ 17 ∷ 16 ∷ []
-
-abbrev pub start-verdicts : List ℕ
-start-verdicts = verdictNumber ToAcceptors ∷ []
-
 module _ (s : Settings) (own : ℕ) (i : Instance) (floor : ℕ) (v : Value) where
-  -- the cell that a start uses
-  abbrev pub StartUses : List ℕ → (index : ℕ) → Type 0
-  StartUses buffer index = placed (s .instances) i ≡ At index
-
   pub start-numbers : NumbersAre (backupStart s own i floor v) start-refusals start-verdicts
   start-numbers buffer t =
       start-elim s own i floor v buffer t (ActsOrRefuses start-refusals start-verdicts buffer t) (refuses (one-of 7 start-refusals refl)) (refuses (one-of 1 start-refusals refl))
@@ -150,7 +131,7 @@ module _ (s : Settings) (own : ℕ) (i : Instance) (floor : ℕ) (v : Value) whe
       start-elim s own i floor v buffer t (λ o. isVerdict (o .answer) ≡ false → o ≡ unchanged buffer t (o .answer)) (λ _. refl) (λ _. refl) (λ _. refl)
       (λ _ index _. ruled-keeps buffer t (withCell t index) (start-ruling s own i floor v buffer t index))
 
-  pub start-other-cells-stay : OtherCellsStay (backupStart s own i floor v) cellAt StartUses
+  pub start-other-cells-stay : OtherCellsStay (backupStart s own i floor v) cellAt (StartUses s i)
   start-other-cells-stay buffer t other unused =
       start-elim s own i floor v buffer t (λ o. cellAt (o .left .tables) other ≡ cellAt t other) refl refl refl
       (λ _ index stands. ruled-tables buffer t (withCell t index) (λ u. cellAt u other ≡ cellAt t other) refl (start-ruling s own i floor v buffer t index)
@@ -203,3 +184,27 @@ module _ (s : Settings) (own : ℕ) (i : Instance) (floor : ℕ) (v : Value) whe
           best-value-fits = null-fits;
           own-value-fits = value-fits;
         }))))
+
+-- ---- all of them
+
+pub step-promises : (s : Settings) (own : ℕ) → StepPromises s own
+step-promises s own = record {
+  numbers-are = backup-numbers s own;
+  refusal-keeps-all = backup-refusal-keeps-all s own;
+  other-cells-stay = backup-other-cells-stay s own;
+  possible-stays = backup-possible-stays s own;
+  sends-kept = backup-sends-kept s own;
+  fitting-stays = backup-fitting-stays s own;
+  sized-stays = backup-sized-stays s own;
+}
+
+pub start-promises : (s : Settings) (own : ℕ) (i : Instance) (floor : ℕ) (v : Value) → StartPromises s own i floor v
+start-promises s own i floor v = record {
+  numbers-are = start-numbers s own i floor v;
+  refusal-keeps-all = start-refusal-keeps-all s own i floor v;
+  other-cells-stay = start-other-cells-stay s own i floor v;
+  possible-stays = start-possible-stays s own i floor v;
+  sends-kept = λ fits. start-sends-kept s own i floor v (fits .instance-fits) (record { high-fits = fits .high-fits; low-fits = fits .low-fits });
+  fitting-stays = λ fits. start-fitting-stays s own i floor v (fits .instance-fits) (record { high-fits = fits .high-fits; low-fits = fits .low-fits });
+  sized-stays = start-sized-stays s own i floor v;
+}
