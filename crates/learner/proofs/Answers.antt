@@ -1,8 +1,8 @@
--- The answer for an instance: its numbers, and that only a decided value is written.
+-- The answer for an instance: its numbers, that only a decided value is written, and what the number answered tells; by the ways out of the answer.
 -- Assumes nothing.
 use Prim.Native.Nat.{ℕ}
 use mathlib.Core.Path.{_≡_, refl}
-use mathlib.Core.List.{List, [], _∷_}
+use native.Mathlib.Omega.{arith}
 use Rattle.basics.specs.declared.Instance.{Instance}
 use Rattle.basics.specs.declared.Place.{Place}
 use Rattle.basics.specs.declared.Place.the-variants.{At, Nowhere}
@@ -19,25 +19,38 @@ use Rattle.learner_tables.specs.Tables.{Tables}
 use Rattle.learner.specs.declared.Answer.{Answer}
 use Rattle.learner.specs.declared.Answer.the-variants as answers
 use Rattle.learner.specs.Learner.{answerOfCell, answerAt, answerFor, answered}
-
--- Answer for an instance: 7, 8, 17; its value, or "not yet".
-abbrev pub numbers : List ℕ
-numbers = 7 ∷ 8 ∷ 17 ∷ verdictNumber Done ∷ verdictNumber NotYet ∷ []
+use Rattle.learner.specs.Promises.{answer-numbers, AnswerPromises}
 
 module _ (s : Settings) (instance : Instance) (t : Tables) (before : Value) where
-  abbrev Fine : Answer → Type 0
-  Fine a = OneOf (answered before a .answer) numbers
-
-  pub answer-numbers : Fine (answerFor s instance t)
-  unfolding answerFor answerAt answerOfCell answered
-  answer-numbers =
-      need-elim Fine _ _ _ (one-of 7 numbers refl) λ _.
-      place (placed (s .instances) instance) (placed-by (λ n. OneOf n numbers) (s .instances) instance (one-of 8 numbers refl))
+  -- what holds of the refusals, and of an answer for a cell, holds of the answer
+  answer-elim : (P : Answer → Type 0) → P (answers.Refused 7) → P (answers.Refused 8) → P (answers.Refused 17) → ((value : Value) → P (answers.Decided value)) → P answers.NotYet
+      → P (answerFor s instance t)
+  unfolding answerFor answerAt answerOfCell
+  answer-elim P seven eight seventeen decided not-yet =
+      need-elim P _ _ _ seven λ _. place (placed (s .instances) instance) (placed-by (λ n. P (answers.Refused n)) (s .instances) instance eight)
     where
-      place : (p : Place) → PlacedBy (λ n. OneOf n numbers) p → Fine (answerAt (s .acceptors) t p)
-      place (At index) _ =
-          need-elim Fine _ _ _ (one-of 17 numbers refl) λ _. if-elim Fine _ _ _ (λ _. one-of (verdictNumber Done) numbers refl) (λ _. one-of (verdictNumber NotYet) numbers refl)
-      place (Nowhere number) one = one
+      place : (p : Place) → PlacedBy (λ n. P (answers.Refused n)) p → P (answerAt (s .acceptors) t p)
+      place (At index) _ = need-elim P _ _ _ seventeen λ _. if-elim P _ _ _ (λ _. decided _) (λ _. not-yet)
+      place (Nowhere number) refused = refused
+
+  -- what the number answered tells of the answer
+  record Told (a : Answer) : Type 0 where
+    one : OneOf (answered before a .answer) answer-numbers
+    done : answered before a .answer ≡ verdictNumber Done → a ≡ answers.Decided (answered before a .left)
+    not-yet : answered before a .answer ≡ verdictNumber NotYet → a ≡ answers.NotYet
+
+  told : Told (answerFor s instance t)
+  unfolding answered
+  told =
+      answer-elim Told
+      (refuses 7 (one-of 7 answer-numbers refl) (λ same. omega (arith, same)) (λ same. omega (arith, same)))
+      (refuses 8 (one-of 8 answer-numbers refl) (λ same. omega (arith, same)) (λ same. omega (arith, same)))
+      (refuses 17 (one-of 17 answer-numbers refl) (λ same. omega (arith, same)) (λ same. omega (arith, same)))
+      (λ value. record { one = one-of (verdictNumber Done) answer-numbers refl; done = λ _. refl; not-yet = λ same. absurd (omega (arith, same)) })
+      (record { one = one-of (verdictNumber NotYet) answer-numbers refl; done = λ same. absurd (omega (arith, same)); not-yet = λ _. refl })
+    where
+      refuses : (number : ℕ) → OneOf number answer-numbers → (number ≡ verdictNumber Done → ⊥) → (number ≡ verdictNumber NotYet → ⊥) → Told (answers.Refused number)
+      refuses number one other another = record { one = one; done = λ same. absurd (other same); not-yet = λ same. absurd (another same) }
 
   -- unless a value is decided, the one lent stays
   pub answer-keeps : (answered before (answerFor s instance t) .answer ≡ verdictNumber Done → ⊥) → answered before (answerFor s instance t) .left ≡ before
@@ -48,3 +61,6 @@ module _ (s : Settings) (instance : Instance) (t : Tables) (before : Value) wher
       kept (answers.Decided value) otherwise = absurd (otherwise refl)
       kept answers.NotYet _ = refl
       kept (answers.Refused number) _ = refl
+
+  pub answer-promises : AnswerPromises s instance t before
+  answer-promises = record { numbers-are = told .one; keeps = answer-keeps; done-tells = told .done; not-yet-tells = told .not-yet }

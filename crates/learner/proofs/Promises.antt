@@ -6,15 +6,14 @@ use mathlib.Core.Path.{_≡_, refl, sym, ap, _∙_, subst}
 use mathlib.Core.Bool.{true, false≢true}
 use mathlib.Core.List.{List, [], _∷_}
 use native.Mathlib.Decide.{ℕ-discrete}
-use Rattle.basics.specs.declared.Verdict.the-variants.{Hold, Decided}
-use Rattle.basics.specs.Verdict.{verdictNumber}
+use Rattle.basics.specs.declared.Verdict.the-variants.{Decided}
 use Rattle.basics.proofs.Ladder.{if-elim}
 use Rattle.messages.specs.declared.Message.{Message}
 use Rattle.messages.specs.Message.{fieldsOf}
 use Rattle.messages.specs.Table.{keepsTable}
 use Rattle.wire.proofs.Laws.{vote-sender, vote-owned, Writable}
 use Rattle.wire.proofs.Widths.{vote-fits, vote-value-fits}
-use Rattle.player.specs.Promises.{OneOf, first, later, packetRefusals, NumbersAre, RefusalKeepsAll, UsesCell, OtherCellsStay, PossibleStays, FittingStays}
+use Rattle.player.specs.Promises.{OneOf, first, later, NumbersAre, RefusalKeepsAll, UsesCell, OtherCellsStay, PossibleStays, FittingStays}
 use Rattle.player.specs.Step.{Ruling, refused, sends, counts, ruled}
 use Rattle.player.proofs.Numbers.{one-of}
 use Rattle.player.proofs.Promises.{RuledBy, NextCell, next-cell, refusal-keeps-all, numbers-are, tables-hold, any-cell, other-cells-stay, possible-stays, fitting-stays}
@@ -28,16 +27,10 @@ use Rattle.learner_rule.proofs.Laws.{counting-elim, counted-possible, counted-f
 use Rattle.learner_tables.specs.Tables.{Tables, cellAt, withCell, Sized, Fitting}
 use Rattle.learner_tables.proofs.Laws.{allowed-tables, index-within, cell-there, cell-apart, fitting-at, fitting-with, sized-with}
 use Rattle.learner.specs.Learner.{rule, learner, learnerStep}
+use Rattle.learner.specs.Promises.{refusals, verdicts, StepPromises}
 use Rattle.learner.proofs.Laws.{rule-elim, place-elim, placed-below}
 
 -- ---- the step
-
--- Order for a packet: 7, 1 to 5, 6, 8, 9, 17, 14, 10, 13, 15.
-abbrev pub refusals : List ℕ
-refusals = packetRefusals (8 ∷ 9 ∷ 17 ∷ 14 ∷ 10 ∷ 13 ∷ 15 ∷ [])
-
-abbrev pub verdicts : List ℕ
-verdicts = verdictNumber Hold ∷ verdictNumber Decided ∷ []
 
 -- counted: held, or decided
 counted-by : (M : ℕ) (c : Cell) → RuledBy refusals verdicts (holdOrDecide M c)
@@ -136,3 +129,15 @@ module _ (s : Settings) where
   unfolding learnerStep learner
   learner-sized-stays packet t {n} =
       tables-hold (learner s) (Sized n) packet t (λ m i _ _ _ before. any-cell (λ c. Sized n (withCell t i c)) (λ c. sized-with t i c before) (rule (s .acceptors) (cellAt t i) m))
+
+pub step-promises : (s : Settings) → StepPromises s
+step-promises s = record {
+  numbers-are = learner-numbers s;
+  refusal-keeps-all = learner-refusal-keeps-all s;
+  other-cells-stay = learner-other-cells-stay s;
+  possible-stays = learner-possible-stays s;
+  fitting-stays = learner-fitting-stays s;
+  sized-stays = learner-sized-stays s;
+  packet-stays = learner-packet-stays s;
+  decided-stays = learner-decided-stays s;
+}

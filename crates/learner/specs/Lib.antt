@@ -1,1 +1,2 @@
 pub mod Learner
+pub mod Promises
