@@ -2,7 +2,7 @@
 -- each kind of message keeps of its row.
 -- Assumes nothing.
 use Prim.Native.Nat.{ℕ, zero, suc, _≤_, _<_}
-use mathlib.Core.Path.{_≡_, refl, sym}
+use mathlib.Core.Path.{_≡_, refl, sym, subst}
 use mathlib.Core.Bool.{Bool, true, false, not, _&&_, _||_, false≢true}
 use mathlib.Core.List.{List, [], _∷_, _++_}
 use native.Mathlib.Omega.{arith}
@@ -27,7 +27,7 @@ use Rattle.messages.specs.Message.{fieldsOf}
 use Rattle.wire.specs.declared.Reading.{Reading}
 use Rattle.wire.specs.declared.Reading.the-variants.{Read, Refused}
 use Rattle.wire.specs.Packet.{packetLength, version, fieldsIn, readPacket, packetWith, packetOf, withMessage}
-use Rattle.wire.specs.Promises.{InRange}
+use Rattle.wire.specs.Promises.{InRange, MalformedNumbers}
 use Rattle.wire.proofs.RoundTrip.{joined, columns, read-kept, read-fields, packet-reads}
 
 -- ---- reading and writing
@@ -65,7 +65,7 @@ written-reads m w = packet-reads m (w .range) (w .kept)
 
 -- ---- refusals
 
--- Malformed means refused by 1 to 5: of a reading that is a refusal, the number is such a one.
+-- of a reading that is a refusal, the number is such a one
 abbrev pub RefusedBy : (ℕ → Type 0) → Reading → Type 0
 RefusedBy Such (Read m) = Unit {0}
 RefusedBy Such (Refused number) = Such number
@@ -79,6 +79,12 @@ module _ (Such : ℕ → Type 0) (one : Such 1) (two : Such 2) (three : Such 3) 
       need-elim (RefusedBy Such) _ _ _ three λ _.
       need-elim (RefusedBy Such) _ _ _ four λ _.
       need-elim (RefusedBy Such) _ _ _ five λ _. tt
+
+pub malformed-numbers : MalformedNumbers
+malformed-numbers p malformed =
+    subst (RefusedBy (λ number. (1 ≤ number) × (number ≤ 5))) (malformed .refuses)
+    (reader-refuses (λ number. (1 ≤ number) × (number ≤ 5)) (omega arith, omega arith) (omega arith, omega arith) (omega arith, omega arith) (omega arith, omega arith)
+    (omega arith, omega arith) p)
 
 -- ---- bytes that are sent
 

@@ -1,6 +1,6 @@
 -- What is promised of packets: bytes and messages match one to one.
 -- Assumes nothing.
-use Prim.Native.Nat.{ℕ, _^_, _<_}
+use Prim.Native.Nat.{ℕ, _^_, _≤_, _<_}
 use mathlib.Core.Path.{_≡_}
 use mathlib.Core.List.{List}
 use mathlib.Core.Logic.{_↔_}
@@ -13,7 +13,7 @@ use Rattle.messages.specs.declared.Fields.{Fields}
 use Rattle.messages.specs.declared.Message.{Message}
 use Rattle.messages.specs.Message.{fieldsOf}
 use Rattle.wire.specs.declared.Reading.the-variants.{Read}
-use Rattle.wire.specs.Packet.{packetLength, readPacket, Kept, writePacket}
+use Rattle.wire.specs.Packet.{packetLength, readPacket, Malformed, Kept, writePacket}
 
 -- The numbers fit where they stand.
 pub record InRange (f : Fields) : Type 0 where
@@ -36,3 +36,7 @@ ReadThenWrite = (packet over : List ℕ) (m : Message) → Bytes packet → leng
 -- A packet has a reading exactly when it keeps the table.
 abbrev pub ReadingIffKept : Type 0
 ReadingIffKept = (packet : List ℕ) → ((m : Message) × (readPacket packet ≡ Read m)) ↔ Kept packet
+
+-- Malformed means refused by 1 to 5.
+abbrev pub MalformedNumbers : Type 0
+MalformedNumbers = (packet : List ℕ) → (malformed : Malformed packet) → (1 ≤ malformed .number) × (malformed .number ≤ 5)
