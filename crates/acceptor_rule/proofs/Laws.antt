@@ -22,14 +22,15 @@ use Rattle.acceptor_rule.specs.declared.Order.{Order}
 use Rattle.acceptor_rule.specs.declared.Asked.the-variants as asked
 use Rattle.acceptor_rule.specs.declared.Ordered.{Ordered}
 use Rattle.acceptor_rule.specs.declared.Ordered.the-variants as ordered
-use Rattle.acceptor_rule.specs.Rule.{cell, freshCell, possible, order, orderOf, obeying, obey}
+use Rattle.acceptor_rule.specs.Rule.{cell, possible, order, orderOf, obeying, obey}
+use Rattle.acceptor_rule.specs.Promises.{FreshPossible}
 
 -- ---- cells
 
 pub same-cell : {c d : Cell} → c .round ≡ d .round → c .«vote_round» ≡ d .«vote_round» → c .value ≡ d .value → c ≡ d
 same-cell r b v = λ i. cell (r i) (b i) (v i)
 
-pub fresh-possible : possible freshCell ≡ true
+pub fresh-possible : FreshPossible
 unfolding possible
 fresh-possible = and-true zero-owned (sym (never-voted (theRound 0) none null refl))
 

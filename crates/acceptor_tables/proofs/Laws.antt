@@ -15,9 +15,9 @@ use Rattle.quorum.specs.declared.Settings.{Settings}
 use Rattle.quorum.specs.Settings.{allowed}
 use Rattle.quorum.proofs.Laws.{allowed-brings}
 use Rattle.acceptor_rule.specs.declared.Cell.{Cell}
-use Rattle.acceptor_rule.specs.Rule.{freshCell}
 use Rattle.acceptor_rule.proofs.Laws.{same-cell, CellFits}
 use Rattle.acceptor_tables.specs.Tables.{Tables, freshTables, cellAt, withCell, isAllowed, acceptorAllowed, Sized, Within, Fitting}
+use Rattle.acceptor_tables.specs.Promises.{FreshCells}
 
 -- ---- settings
 
@@ -67,7 +67,7 @@ cell-apart t index other c differ =
     same-cell (round-apart (t .rounds) index other (c .round) differ) (round-apart (t .voteRounds) index other (c .«vote_round») differ)
     (value-apart (t .values) index (c .value) other differ)
 
-pub fresh-cells : (N index : ℕ) → index < N → cellAt (freshTables N) index ≡ freshCell
+pub fresh-cells : FreshCells
 fresh-cells N index inside =
     same-cell (ap theRound (fresh-number N 0 index inside)) (ap theRound (fresh-number N (none .0) index inside)) (fresh-value N index inside)
 

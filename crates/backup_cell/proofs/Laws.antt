@@ -14,13 +14,14 @@ use Rattle.basics.specs.Votes.{isVoteUpTo}
 use Rattle.basics.proofs.Ladder.{by-test, both-true, and-true, or-left, or-right, or-cases}
 use Rattle.quorum.specs.Quorum.{majority, within, size}
 use Rattle.backup_cell.specs.declared.Cell.{Cell}
-use Rattle.backup_cell.specs.Cell.{idle, asking, proposed, cell, freshCell, isFresh, phaseFits, isStarted, possible}
+use Rattle.backup_cell.specs.Cell.{idle, asking, proposed, cell, isFresh, phaseFits, isStarted, possible}
+use Rattle.backup_cell.specs.Promises.{FreshPossible}
 
 pub same-cell : {c d : Cell} → c .round ≡ d .round → c .phase ≡ d .phase → c .set ≡ d .set → c .«best_vote_round» ≡ d .«best_vote_round» → c .«best_value» ≡ d .«best_value»
     → c .«own_value» ≡ d .«own_value» → c ≡ d
 same-cell r p s b v o = λ i. cell (r i) (p i) (s i) (b i) (v i) (o i)
 
-pub fresh-possible : (M own : ℕ) → possible M own freshCell ≡ true
+pub fresh-possible : FreshPossible
 unfolding possible isFresh
 fresh-possible M own = refl
 

@@ -16,9 +16,10 @@ use Rattle.quorum.specs.Settings.{allowed}
 use Rattle.quorum.proofs.Laws as quorums
 use Rattle.quorum.proofs.Laws.{allowed-brings}
 use Rattle.backup_cell.specs.declared.Cell.{Cell}
-use Rattle.backup_cell.specs.Cell.{idle, freshCell}
+use Rattle.backup_cell.specs.Cell.{idle}
 use Rattle.backup_cell.proofs.Laws.{same-cell, CellFits}
 use Rattle.backup_tables.specs.Tables.{Tables, tables, freshTables, cellAt, withCell, isAllowed, backupAllowed, Sized, Within, Fitting}
+use Rattle.backup_tables.specs.Promises.{FreshCells}
 
 -- ---- settings
 
@@ -100,7 +101,7 @@ cell-apart t index other c differ =
     (number-apart (t .sets) index other (c .set) differ) (round-apart (t .bestVoteRounds) index other (c .«best_vote_round») differ)
     (value-apart (t .bestValues) index (c .«best_value») other differ) (value-apart (t .ownValues) index (c .«own_value») other differ)
 
-pub fresh-cells : (N index : ℕ) → index < N → cellAt (freshTables N) index ≡ freshCell
+pub fresh-cells : FreshCells
 fresh-cells N index inside =
     same-cell (ap theRound (fresh-number N 0 index inside)) (fresh-number N idle index inside) (fresh-number N 0 index inside)
     (ap theRound (fresh-number N (none .0) index inside)) (fresh-value N index inside) (fresh-value N index inside)

@@ -17,11 +17,12 @@ use Rattle.quorum.specs.Quorum.{majority, hasMember, within, size, reaches, rea
 use Rattle.quorum.proofs.Laws.{majority-some, reaches-iff, empty-size, empty-within, with-member-size, with-member-within}
 use Rattle.learner_cell.specs.declared.Cell.{Cell}
 use Rattle.learner_cell.specs.Cell.{cell, freshCell, isDecided, isFresh, isHeard, possible, withVoter}
+use Rattle.learner_cell.specs.Promises.{FreshPossible, FreshUndecided}
 
 pub same-cell : {c d : Cell} → c .round ≡ d .round → c .set ≡ d .set → c .value ≡ d .value → c ≡ d
 same-cell r s v = λ i. cell (r i) (s i) (v i)
 
-pub fresh-possible : (M : ℕ) → possible M freshCell ≡ true
+pub fresh-possible : FreshPossible
 unfolding possible isFresh
 fresh-possible M = refl
 
@@ -30,7 +31,7 @@ pub decided-iff : (M : ℕ) (c : Cell) → isDecided M c ≡ reachesMajority M (
 unfolding isDecided
 decided-iff M c = refl
 
-pub fresh-undecided : (M : ℕ) → isDecided M freshCell ≡ false
+pub fresh-undecided : FreshUndecided
 unfolding isDecided
 fresh-undecided M =
     by-test (isDecided M freshCell) (λ reached. absurd (omega (arith, reaches-iff (majority M) 0 .0 reached, empty-size, majority-some M))) (λ open-still. open-still)

@@ -15,9 +15,9 @@ use Rattle.quorum.specs.Settings.{allowed}
 use Rattle.quorum.proofs.Laws as quorums
 use Rattle.quorum.proofs.Laws.{allowed-brings}
 use Rattle.learner_cell.specs.declared.Cell.{Cell}
-use Rattle.learner_cell.specs.Cell.{freshCell}
 use Rattle.learner_cell.proofs.Laws.{same-cell, CellFits}
 use Rattle.learner_tables.specs.Tables.{Tables, freshTables, cellAt, withCell, isAllowed, learnerAllowed, Sized, Within, Fitting}
+use Rattle.learner_tables.specs.Promises.{FreshCells}
 
 -- ---- settings
 
@@ -59,7 +59,7 @@ cell-apart t index other c differ =
     same-cell (round-apart (t .rounds) index other (c .round) differ) (number-apart (t .sets) index other (c .set) differ)
     (value-apart (t .values) index (c .value) other differ)
 
-pub fresh-cells : (N index : ℕ) → index < N → cellAt (freshTables N) index ≡ freshCell
+pub fresh-cells : FreshCells
 fresh-cells N index inside =
     same-cell (ap theRound (fresh-number N (none .0) index inside)) (fresh-number N 0 index inside) (fresh-value N index inside)
 

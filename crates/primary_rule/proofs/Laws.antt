@@ -14,11 +14,12 @@ use Rattle.basics.proofs.Ladder.{need-elim}
 use Rattle.messages.specs.declared.Message.the-variants.{Propose}
 use Rattle.player.specs.Step.{Ruling, refused, sends}
 use Rattle.primary_rule.specs.declared.Cell.{Cell}
-use Rattle.primary_rule.specs.Rule.{cell, freshCell, possible, risen, proposing, takeRequest}
+use Rattle.primary_rule.specs.Rule.{cell, possible, risen, proposing, takeRequest}
+use Rattle.primary_rule.specs.Promises.{FreshPossible}
 
 -- ---- cells
 
-pub fresh-possible : (N : ℕ) → possible N freshCell ≡ true
+pub fresh-possible : FreshPossible
 unfolding possible
 fresh-possible N = le-leb 0 N (omega arith)
 
