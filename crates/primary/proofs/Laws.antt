@@ -12,7 +12,6 @@ use borrow.Author.Tests.{eqb-true, eq-eqb}
 use Rattle.basics.specs.declared.Place.the-variants.{At}
 use Rattle.basics.specs.declared.Value.{Value}
 use Rattle.basics.specs.Ladder.{need_or_then_}
-use Rattle.basics.specs.Outcome.{Outcome, outcome, Lent, lent}
 use Rattle.basics.specs.Rounds.{theInstance}
 use Rattle.basics.proofs.Ladder.{both-true, and-true}
 use Rattle.basics.proofs.Places.{PlacedBy}
@@ -32,7 +31,7 @@ use Rattle.primary_rule.specs.declared.Cell.{Cell}
 use Rattle.primary_rule.specs.Rule.{cell, proposing}
 use Rattle.primary_rule.proofs.Laws.{take-elim, proposes, CellFits}
 use Rattle.primary.specs.Primary.{cellAt, withCell, isAllowed, primaryAllowed, Fitting, place, rule, primary, primaryStep, primaryByReference, primaryRequest, asSlice}
-use Rattle.primary.specs.Promises.{proposed}
+use Rattle.primary.specs.Promises.{proposed, SliceIsTheRecord}
 
 -- ---- the record as a slice
 
@@ -118,13 +117,14 @@ module _ (s : Settings) (packet : List ℕ) (number : ℕ) where
       ≡ asSlice (afterPlacing packet held p (λ index. ruled packet held (λ next. next) (rule (s .instances) held m))))
       _ _ m (λ switch value _. same-ruled (rule (s .instances) held m)) refl
 
-  pub slice-is-the-record : primaryStep s packet (number ∷ []) ≡ asSlice (primaryRequest s packet (cell (theInstance number)))
-  unfolding primaryStep primaryRequest primary primaryByReference step isAllowed need_or_then_ afterReading
-  slice-is-the-record = judge (allowed s) (readPacket packet)
-    where
-      judge : (fine : Bool) (reading : Reading)
-          → (need fine && true or unchanged packet slice 7 then afterReading packet slice reading (act (primary s) packet slice))
-          ≡ asSlice (need fine or unchanged packet held 7 then afterReading packet held reading (act (primaryByReference s) packet held))
-      judge false reading = refl
-      judge true (Refused n) = refl
-      judge true (Read m) = same-act m
+pub slice-is-the-record : SliceIsTheRecord
+unfolding primaryStep primaryRequest primary primaryByReference step isAllowed need_or_then_ afterReading
+slice-is-the-record s packet number = judge (allowed s) (readPacket packet)
+  where
+    judge : (fine : Bool) (reading : Reading)
+        → (need fine && true or unchanged packet (number ∷ []) 7 then afterReading packet (number ∷ []) reading (act (primary s) packet (number ∷ [])))
+        ≡ asSlice (need fine or unchanged packet (cell (theInstance number)) 7 then
+        afterReading packet (cell (theInstance number)) reading (act (primaryByReference s) packet (cell (theInstance number))))
+    judge false reading = refl
+    judge true (Refused n) = refl
+    judge true (Read m) = same-act s packet number m

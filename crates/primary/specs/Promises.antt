@@ -17,7 +17,7 @@ use Rattle.quorum.specs.declared.Settings.{Settings}
 use Rattle.quorum.specs.Settings.{allowed}
 use Rattle.primary_rule.specs.declared.Cell.{Cell}
 use Rattle.primary_rule.specs.Rule.{cell, possible}
-use Rattle.primary.specs.Primary.{cellAt, Fitting, primary, primaryStep, primaryRequest}
+use Rattle.primary.specs.Primary.{cellAt, Fitting, primary, primaryStep, primaryRequest, asSlice}
 
 -- Order for a packet: 7, 1 to 5, 6, 17, 12. A request names no instance and no sender to judge, so 8 and 9 of the common order never occur.
 abbrev pub refusals : List ℕ
@@ -46,6 +46,12 @@ pub record RequestPromises (s : Settings) : Type 0 where
   pub possible-stays : PossibleStays (primaryRequest s) (λ c index. c) (possible (s .instances))
   pub sends-kept : SendsKept (primaryRequest s) CellFitting
   pub fitting-stays : FittingStays (primaryRequest s) CellFitting
+
+-- ---- the two forms in which the record is lent
+
+-- A slice of one number is stepped as the record with that number. So what holds of runs of the one holds of runs of the other.
+abbrev pub SliceIsTheRecord : Type 0
+SliceIsTheRecord = (s : Settings) (packet : List ℕ) (number : ℕ) → primaryStep s packet (number ∷ []) ≡ asSlice (primaryRequest s packet (cell (theInstance number)))
 
 -- ---- a repeated request
 

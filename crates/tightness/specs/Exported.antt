@@ -52,7 +52,7 @@ pub record ExportedCalls : Type 2 where
   pub of-primary-step : Does primary-step.Learnt λ _ (M, (N, (packet, (next, _)))) answer (_, (_, (packet′, (next′, _)))).
       outcome answer (lent (now packet′) (now next′))
       ≡ primaryStep (settings M N) (now packet) (now next)
-  -- The call on a record lent by reference has no promise that a caller learns, but a contract; it states `requested`.
+  -- The call on a record lent by reference is proved by hand: its contract states `requested`. It steps as the slice of one number does (`SliceIsTheRecord` of primary).
   pub of-primary-request : {M : Type 1} (𝓤 : URA M) (H : Heap 𝓤) (A : Atoms 𝓤) (mem : Memory → SProp 𝓤) (run : Routine → Fun 𝓤)
       (κs : Lfts 2) (entry : Args primary-request.signature κs) (answer : Res primary-request.signature κs) (exit : AtExit primary-request.ended κs)
       → primary-request.clauses 𝓤 H A mem run κs entry .ensures tt answer exit ≡ fact 𝓤 (requested κs entry answer exit)
@@ -92,6 +92,7 @@ pub record ExportedCalls : Type 2 where
       let before = learners.tables (now rounds) (now sets) (now values) in
       outcome answer (lent (now buffer′) before)
       ≡ save (settings M N) (now buffer) before
+  -- Runs have no reading back: what is promised of it stands in learner_saved.
   pub of-learner-read-saved : Does learner-read-saved.Learnt
       λ _ (M, (N, (saved, (rounds, (sets, (values, _)))))) answer (_, (_, (_, (rounds′, (sets′, (values′, _)))))).
       outcome answer (lent (now saved) (learners.tables (now rounds′) (now sets′) (now values′)))
