@@ -1,6 +1,6 @@
 -- The settings that are allowed are just those of the paper: from the tests to the numbers by what allowed settings bring, and back by the three cases of M.
 -- Assumes nothing.
-use mathlib.Core.Path.{_≡_, refl}
+use mathlib.Core.Path.{_≡_}
 use mathlib.Core.Bool.{true, and-eq-true-iff}
 use mathlib.Core.Logic.{_⊎_, inl, inr}
 use Prim.Native.Nat.{ℕ}
