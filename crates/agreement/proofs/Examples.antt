@@ -1,62 +1,34 @@
--- The example runs are runs, and end as they should: each is computed from the definitions, through the packets' bytes.
+-- The example runs are runs: rows that may be played are calls, one after the other. So the theorem speaks of them.
 -- Assumes nothing.
-use Prim.Native.Nat.{ℕ, _<_}
+use Prim.Native.Nat.{ℕ}
 use mathlib.Core.Path.{_≡_, refl, ap, _∙_}
 use mathlib.Core.Bool.{true, false, _&&_, false≢true}
 use mathlib.Core.List.{List, [], _∷_}
 use mathlib.Core.Logic.{⊎-elim}
 use native.Mathlib.Omega.{arith}
-use lib.Count.{ones}
 use lib.Dec.{lit<}
 use borrow.Author.Tests.{ltb-true}
-use Rattle.numbers.specs.BigEndian.{numberAt}
-use Rattle.basics.specs.declared.Round.{Round}
 use Rattle.basics.specs.declared.Value.{Value}
-use Rattle.basics.specs.Ladder.{if_then_else_, need_or_then_}
-use Rattle.basics.specs.Rounds.{theRound, ownerOf, ownedOr0, ownedNot0, rank, atMost}
-use Rattle.basics.specs.Votes.{isVoteUpTo}
-use Rattle.basics.specs.Places.{placed}
+use Rattle.basics.specs.Rounds.{theRound}
 use Rattle.basics.specs.Values.{null}
-use Rattle.basics.specs.Verdict.{saysSend}
 use Rattle.columns.proofs.Columns.{below-fresh}
 use Rattle.basics.proofs.Ladder.{both-true, or-cases}
 use Rattle.messages.specs.declared.Message.{Message}
-use Rattle.messages.specs.declared.Message.the-variants.{Vote}
-use Rattle.messages.specs.Table.{requestRow, prepareRow, promiseRow, proposeRow, voteRow, tableRow, keepsTable}
-use Rattle.messages.specs.Message.{messageOf, fieldsOf, whenRequest, whenPrepare, whenPromise, whenPropose, whenVote}
 use Rattle.messages.proofs.Eliminators.{request-elim}
 use Rattle.wire.specs.declared.Reading.{Reading}
 use Rattle.wire.specs.declared.Reading.the-variants.{Read, Refused}
-use Rattle.wire.specs.Packet.{packetLength, fieldsIn, readPacket, packetWith, packetOf}
+use Rattle.wire.specs.Packet.{packetLength, readPacket, packetOf}
 use Rattle.wire.proofs.Laws.{packet-bytes}
-use Rattle.player.specs.Step.{afterReading, afterPlacing, ruled, ruleAt, act, step}
 use Rattle.quorum.specs.declared.Settings.{Settings}
-use Rattle.quorum.specs.Settings.{acceptorsAllowed, instancesAllowed, allowed}
-use Rattle.quorum.specs.Quorum.{majority, bit, hasMember, withMember, within, reaches}
 use Rattle.quorum.specs.Voters.{Mem}
-use Rattle.columns.specs.Walks.{cellsFrom, every}
-use Rattle.primary_rule.specs.Rule as primaryRule
-use Rattle.primary.specs.Primary as primary
-use Rattle.acceptor_rule.specs.Rule as acceptorRule
-use Rattle.acceptor_tables.specs.Tables as acceptorTables
-use Rattle.acceptor.specs.Acceptor as acceptor
-use Rattle.backup_cell.specs.Cell as backupCell
-use Rattle.backup_rule.specs.Rule as backupRule
-use Rattle.backup_tables.specs.Tables as backupTables
-use Rattle.backup.specs.Backup as backup
-use Rattle.learner_cell.specs.Cell as learnerCell
-use Rattle.learner_rule.specs.Rule as learnerRule
-use Rattle.learner_tables.specs.Tables as learnerTables
-use Rattle.learner.specs.Learner as learner
-use Rattle.learner_delivery.specs.Delivery.{delivered}
-use Rattle.learner_holes.specs.Holes as holes
-use Rattle.agreement.specs.Run.{by-start, Boxes, freshBoxes, put, Handed, Call, Later, now, and-then, Run, Decided}
+use Rattle.agreement.specs.Run.{by-start, Boxes, freshBoxes, Handed, Call, Later, now, and-then, Run, Decided}
 use Rattle.agreement.specs.Run as run
 use Rattle.agreement.specs.Agreement.{Agreed}
-use Rattle.agreement.specs.Examples.{Row, primary-gets, primary-gets-by-reference, acceptor-gets, backup-starts, backup-gets, learner-gets, zeros, after, answers, sameBytes, wasSent}
+use Rattle.agreement.specs.Examples.{Row, primary-gets, primary-gets-by-reference, acceptor-gets, backup-starts, backup-gets, learner-gets, zeros, after, answers, wasSent}
 use Rattle.agreement.specs.Examples.{readsRequest, mayHand, isHanded, played, plays, three, first, v, u, deciding, takingOver, early, taken, leavingAHole}
-use Rattle.agreement.specs.Examples.{repairing, holed, repaired, splitting, split, five, seven, threeOfFive, fourOfSeven, ofFive, ofSeven, Computed}
-use Rattle.agreement.proofs.Finding.{was-sent, isAcceptor, sentBy, vote-found, two-votes}
+use Rattle.agreement.specs.Examples.{repairing, holed, repaired, splitting, split, five, seven, threeOfFive, fourOfSeven, ofFive, ofSeven}
+use Rattle.agreement.proofs.Finding.{was-sent, two-votes}
+use Rattle.agreement.proofs.Computed.{computed}
 use Rattle.agreement.proofs.Agreement.{agreement}
 
 -- ---- rows that may be played are a run
@@ -98,42 +70,6 @@ rows-run {s} x (row ∷ rows) before e =
     let a = both-true (isHanded x row && answers s x row) (plays s (after s x row) rows) e in
     let b = both-true (isHanded x row) (answers s x row) (a .0) in
     rows-run (after s x row) rows (and-then before (row-calls s x row (b .0))) (a .1)
-
--- ---- the examples, computed
-
-pub computed : Computed
-unfolding ones numberAt if_then_else_ need_or_then_ ownerOf ownedOr0 ownedNot0 rank atMost requestRow prepareRow promiseRow proposeRow voteRow tableRow keepsTable isVoteUpTo
-    messageOf fieldsOf whenRequest whenPrepare whenPromise whenPropose whenVote fieldsIn readPacket packetWith packetOf placed afterReading afterPlacing ruled ruleAt act step saysSend
-    acceptorsAllowed instancesAllowed allowed majority bit hasMember withMember within reaches put sameBytes wasSent isAcceptor sentBy plays played
-    primaryRule.possible primaryRule.takeRequest primary.isAllowed primary.primary primary.primaryStep primary.primaryByReference primary.primaryRequest
-    acceptorRule.possible acceptorRule.orderOf acceptorRule.obeying acceptorRule.obey acceptorTables.isAllowed acceptor.acceptor acceptor.acceptorStep
-    backupCell.isFresh backupCell.phaseFits backupCell.isStarted backupCell.possible backupRule.nextRound backupRule.start backupRule.counting backupRule.chosen
-    backupRule.whenMajority backupRule.takePromise backupTables.isAllowed backup.backup backup.backupStep backup.backupStart
-    learnerCell.isDecided learnerCell.valueOf learnerCell.isFresh learnerCell.isHeard learnerCell.possible learnerRule.holdOrDecide learnerRule.addVoter learnerRule.countVote
-    learnerTables.isAllowed learner.place learner.rule learner.learner learner.learnerStep learner.answerOfCell learner.answerAt learner.answerFor
-    cellsFrom every delivered holes.decidedEndFrom holes.isHole holes.firstHoleFrom holes.findHole
-computed = record {
-  deciding-plays = refl;
-  first-vote = vote-found 0 first (theRound 0) v (early .packets) refl refl;
-  second-vote = vote-found 1 first (theRound 0) v (early .packets) refl refl;
-  taking-over-plays = refl;
-  old-votes-heard = refl;
-  new-votes-heard = refl;
-  no-votes-heard = refl;
-  leaving-a-hole-plays = refl;
-  the-hole = refl;
-  repairing-plays = refl;
-  null-said = refl;
-  no-hole-left = refl;
-  both-delivered = refl;
-  splitting-plays = refl;
-  the-other-said = refl;
-  one-vote = vote-found 0 first (theRound 0) v (split .packets) refl refl;
-  three-of-five-plays = refl;
-  five-said = refl;
-  four-of-seven-plays = refl;
-  seven-said = refl;
-}
 
 -- ---- and what the theorem says of them
 

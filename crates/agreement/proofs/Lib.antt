@@ -12,5 +12,6 @@ pub mod NotAllowed
 pub mod Agreement
 pub mod OtherRuns
 pub mod Finding
+pub mod Computed
 pub mod Examples
 pub mod Slips

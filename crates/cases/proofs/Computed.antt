@@ -45,7 +45,8 @@ unfolding ones numberAt if_then_else_ need_or_then_ ownerOf ownedOr0 ownedNot0 r
     backupRule.whenMajority backupRule.takePromise backupTables.isAllowed backup.backup backup.backupStep backup.backupStart
     learnerCell.isDecided learnerCell.valueOf learnerCell.isFresh learnerCell.isHeard learnerCell.possible learnerRule.holdOrDecide learnerRule.addVoter learnerRule.countVote
     learnerTables.isAllowed learner.place learner.rule learner.learner learner.learnerStep learner.answerOfCell learner.answerAt learner.answerFor learner.answered
-    deliver holes.decidedEndFrom holes.isHole holes.firstHoleFrom holes.findHole holes.answered header marked sameSettings cellBytes cellIn cellsBytes roundsOf setsOf valuesOf savedTable save readSaved
+    deliver holes.decidedEndFrom holes.isHole holes.firstHoleFrom holes.findHole holes.answered header marked sameSettings
+    cellBytes cellIn cellsBytes roundsOf setsOf valuesOf savedTable save readSaved
 computed = (
   record {
     acceptor-fresh = refl;
