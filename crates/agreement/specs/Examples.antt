@@ -243,7 +243,7 @@ threeOfFive =
     ∷ learner-gets 0 (Vote 0 first (theRound 0) v) decided
     ∷ []
 
--- Four of seven promise backup 3, and four others of them, one shared, vote.
+-- Four of seven promise backup 3, and four vote: the last of these and three who were not asked.
 abbrev pub fourOfSeven : List Row
 fourOfSeven =
     backup-starts 3 first 0 u toAcceptors

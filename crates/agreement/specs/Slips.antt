@@ -107,6 +107,7 @@ untilSlip before = played three (freshBoxes 2) before
 abbrev pub slipped : Slip → (before after : List Row) → Boxes
 slipped slip before after = played three (afterSlip slip (untilSlip before)) after
 
+-- Each row may be played and answers as it says, and the packet of the slip may be handed over.
 pub record Played (slip : Slip) (before after : List Row) : Type 0 where
   pub before-plays : plays three (freshBoxes 2) before ≡ true
   pub slip-plays : maySlip slip (untilSlip before) ≡ true
