@@ -1,70 +1,151 @@
-# Compilers and a runner for the archives, which are for x86-64. On another processor a cross-compiler and an emulator stand in, from Debian's packages.
-# Sourced by the scripts beside it, with the repository's top as the working folder.
+# shellcheck shell=bash
+# Compilers, runners and counting, for the scripts beside it and for the gate, which source it with the repository's top as the working folder. Sourcing it changes
+# nothing: a script says by need_.. what it needs, and only that installs.
 
-install() { # COMMAND PACKAGE..: installs the packages where the command is missing
-    command -v "$1" >/dev/null && return
+# The machines that programs are built for: this one and, where it is another, x86-64, for which the toolchain writes its archives. The latter's programs then run in
+# an emulator.
+machines=("$(uname -m)")
+[ "${machines[0]}" = x86_64 ] || machines+=(x86_64)
+
+warnings=(-Wall -Wextra -Wpedantic -Werror)
+
+# --- What is needed
+
+stop_without() { # WHAT PACKAGE..: says what is missing, and ends the script with status 2
+    echo "$1 is missing. It is in Debian's ${*:2}, which root can install by this script; elsewhere, install it first." >&2
+    exit 2
+}
+
+install_packages() { # WHAT PACKAGE..: says what is installed and what for, and installs it
+    local what=$1
     shift
-    apt-get update -qq && DEBIAN_FRONTEND=noninteractive apt-get install -y -qq --no-install-recommends "$@" >/dev/null
+    if [ "$(id -u)" -ne 0 ] || ! command -v apt-get >/dev/null; then stop_without "$what" "$@"; fi
+    echo "installing $* by apt-get: $what is missing" >&2
+    case $* in *:amd64*) dpkg --add-architecture amd64 ;; esac
+    { apt-get update -qq && DEBIAN_FRONTEND=noninteractive apt-get install -y -qq --no-install-recommends "$@"; } >/dev/null || stop_without "$what" "$@"
 }
 
-if [ "$(uname -m)" = x86_64 ]; then
-    install cc gcc libc6-dev
-    compile_c() { cc "$@"; }
-    rust_compiler() { install rustc rustc && rustc "$@"; }
-    run_built() { "$@"; }
-else
-    install x86_64-linux-gnu-gcc gcc-x86-64-linux-gnu libc6-dev-amd64-cross
-    install qemu-x86_64 qemu-user
-    compile_c() { x86_64-linux-gnu-gcc -static "$@"; }
-    rust_compiler() {
-        # Debian's compiler has the library for x86-64 beside it; another compiler on the path may not
-        if [ ! -d /usr/lib/rustlib/x86_64-unknown-linux-gnu ]; then
-            dpkg --add-architecture amd64
-            apt-get update -qq
-            DEBIAN_FRONTEND=noninteractive apt-get install -y -qq --no-install-recommends rustc libstd-rust-dev:amd64 >/dev/null
+need() { # COMMAND PACKAGE..: a command, from Debian's packages where it is missing
+    command -v "$1" >/dev/null && return
+    install_packages "$@"
+    command -v "$1" >/dev/null || stop_without "$@"
+}
+
+need_toolchain() {
+    command -v rt >/dev/null && return
+    echo "rt, of the Rattle toolchain, is missing: README.md names the kit" >&2
+    exit 2
+}
+
+need_c() { # MACHINE..: a C compiler for each, and an emulator of another machine
+    local machine
+    for machine in "$@"; do
+        if [ "$machine" = "${machines[0]}" ]; then
+            need cc gcc libc6-dev
+        else
+            need x86_64-linux-gnu-gcc gcc-x86-64-linux-gnu libc6-dev-amd64-cross
+            need qemu-x86_64 qemu-user
         fi
-        /usr/bin/rustc --target x86_64-unknown-linux-gnu -C linker=x86_64-linux-gnu-gcc "$@"
-    }
-    run_built() { qemu-x86_64 "$@"; }
-fi
-
-# The libraries that a host links.
-libraries='primary acceptor backup learner learner_delivery learner_holes learner_saved'
-
-archive_files() { # NAME..
-    printf 'target/staticlib/lib%s.a\n' "$@"
-}
-
-# Writes the archives of libraries. Making one proves its crate, so one that is newer than all of crates/ is used as it is. The others are made side by side,
-# each in a copy: two checks in one repository undo each other's stamps.
-archives() { # NAME..
-    local name archive copies old=() status=0
-    for name in "$@"; do
-        archive=$(archive_files "$name")
-        if [ ! -f $archive ] || [ -n "$(find crates -newer $archive -print -quit)" ]; then old+=("$name"); fi
     done
-    [ "${#old[@]}" -gt 0 ] || return 0
-    echo "proving ${old[*]} for their archives" >&2
-    rt check "${old[@]}" >target/log/archives 2>&1 || { cat target/log/archives; return 1; }
-    copies=$(mktemp -d)
-    for name in "${old[@]}"; do archive_in "$copies/$name" "$name" >"target/log/$name.archive" 2>&1 & done
-    wait
-    rm -rf "$copies"
-    for name in "${old[@]}"; do [ -f $(archive_files "$name") ] || { cat "target/log/$name.archive"; status=1; }; done
-    return "$status"
 }
 
-archive_in() { # COPY NAME
-    rm -f $(archive_files "$2")
-    mkdir -p "$1/target" target/staticlib
-    cp -R crates crates.txt "$1"
-    cp -R target/rlib target/stamp "$1/target"
-    (cd "$1" && rt staticlib "$2") && cp "$1/$(archive_files "$2")" target/staticlib
+need_rust() { # MACHINE..: a Rust compiler for each, and a linker
+    local machine packages
+    need_c "$@"
+    for machine in "$@"; do
+        rust_compiler "$machine" >/dev/null && continue
+        packages=(rustc)
+        [ "$machine" = "${machines[0]}" ] || packages+=(libstd-rust-dev:amd64)
+        install_packages "a Rust compiler for $machine" "${packages[@]}"
+        rust_compiler "$machine" >/dev/null || stop_without "a Rust compiler for $machine" "${packages[@]}"
+    done
 }
 
-# Builds a Rust program with the archives it calls.
-compile_rust() { # SOURCE OUT ARCHIVE..
-    local source=$1 out=$2
+need_all() { # what the host tests need
+    need_toolchain
+    need_rust "${machines[@]}"
+    need g++ g++
+    need pkg-config pkgconf
+}
+
+# --- The toolchain, the library, and programs that link it
+
+kit() { # prints the toolchain's folder
+    echo "${RATTLE_HOME:-$(dirname "$(dirname "$(readlink -f "$(command -v rt)")")")}"
+}
+
+toolchain() { # prints the folder of its compiler and of the C library that its programs run with
+    echo "$(kit)/on/${machines[0]}/toolchain"
+}
+
+library_folder() { # MACHINE: prints where host/build has the library that programs for it link
+    if [ "$1" = "${machines[0]}" ]; then echo target/prefix/lib; else echo "target/prefix/lib/$1-linux-gnu"; fi
+}
+
+compile_c() { # MACHINE OUT SOURCE..: a program in C with the library
+    local machine=$1 out=$2 compiler=(cc)
     shift 2
-    rust_compiler --edition 2021 -C opt-level=3 "$source" -L target/staticlib "${@/#/-lstatic=}" -o "$out"
+    [ "$machine" = "${machines[0]}" ] || compiler=("$machine-linux-gnu-gcc" -static)
+    rm -f "$out"
+    mkdir -p "$(dirname "$out")"
+    "${compiler[@]}" -std=c11 "${warnings[@]}" -O2 "$@" "$(library_folder "$machine")/libmyrthakel.a" -o "$out"
+}
+
+rust_compiler() { # MACHINE: prints a Rust compiler that has the standard library for it. Debian's may have where another on the path has not
+    local compiler
+    for compiler in rustc /usr/bin/rustc; do
+        command -v "$compiler" >/dev/null || continue
+        [ ! -d "$("$compiler" --print sysroot)/lib/rustlib/$1-unknown-linux-gnu" ] || { echo "$compiler"; return; }
+    done
+    return 1
+}
+
+compile_rust() { # MACHINE OUT SOURCE [WORD..]: a program in Rust with the library
+    local machine=$1 out=$2 compiler
+    shift 2
+    compiler=("$(rust_compiler "$machine")" --edition 2021 -C opt-level=3)
+    [ "$machine" = "${machines[0]}" ] || compiler+=(--target "$machine-unknown-linux-gnu" -C "linker=$machine-linux-gnu-gcc")
+    rm -f "$out"
+    mkdir -p "$(dirname "$out")"
+    "${compiler[@]}" "$@" -L "$(library_folder "$machine")" -lstatic=myrthakel -o "$out"
+}
+
+run_on() { # MACHINE PROGRAM ARGUMENT..
+    local machine=$1
+    shift
+    if [ "$machine" = "${machines[0]}" ]; then "$@"; else "qemu-$machine" "$@"; fi
+}
+
+run_proved() { # NAME: a program of crates/, built by rt check, on standard input; as rt runs it, by the toolchain's own loader and emulator
+    local tools
+    tools=$(toolchain)
+    (
+        PATH=$tools/bin:$PATH
+        run_on x86_64 "$tools/lib/ld-linux-x86-64.so.2" --library-path "$tools/lib" "target/bin/$1"
+    )
+}
+
+# --- Counting
+
+passed=0
+failed=0
+
+# Adds what the last line 'N passed, M failed' of a log counts. A part counts as one failure more where there is no such line, where it counts nothing, and where the
+# part ended with a status other than 0 although it counted no failure.
+add_counts() { # NAME STATUS LOG
+    local last more
+    last=$(grep -E '^[0-9]+ passed, [0-9]+ failed$' "$3" | tail -n 1)
+    more=${last#*passed, }
+    if [ -z "$last" ] || [ "$last" = '0 passed, 0 failed' ] || { [ "$2" -ne 0 ] && [ "${more%% *}" -eq 0 ]; }; then
+        echo "FAILED: $1 ended with status $2 and ${last:-no count}"
+        failed=$((failed + 1))
+    fi
+    [ -n "$last" ] || return 0
+    passed=$((passed + ${last%% *}))
+    failed=$((failed + ${more%% *}))
+}
+
+end_count() { # the last line of all; its status says whether all passed, and that there was something to pass
+    echo "$passed passed, $failed failed"
+    [ "$failed" -eq 0 ] && [ "$passed" -gt 0 ]
 }
