@@ -12,7 +12,7 @@ warnings=(-Wall -Wextra -Wpedantic -Werror)
 # --- What is needed
 
 stop_without() { # WHAT PACKAGE..: says what is missing, and ends the script with status 2
-    echo "$1 is missing. It is in Debian's ${*:2}, which root can install by this script; elsewhere, install it first." >&2
+    echo "$1 is missing, and cannot be installed here. On Debian: apt-get install ${*:2}" >&2
     exit 2
 }
 
