@@ -1,3 +1,5 @@
 pub mod Columns
 pub mod Walks
+pub mod Fresh
 mod Ways
+mod Fills

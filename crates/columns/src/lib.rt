@@ -1,6 +1,6 @@
 // Columns of lent tables: a number for each cell, and for a value two, its high half first. Past its end a column reads as 0 and is not written.
 ghost use mathlib.Core.Path.{_≡_};
-ghost use lib.ListN.{getD, set};
+ghost use lib.ListN.{length, getD, set, replicate};
 ghost use Rattle.columns.specs.Columns.{roundAt, withRound, byteAt, withByte, valueAt, withValue};
 use basics::Round;
 use basics::Value;
@@ -24,6 +24,15 @@ pub fn put_round(rounds: &mut [u32], index: usize, round: Round)
     }
 }
 
+// One round in every cell, whatever the column holds.
+pub fn fill_rounds(rounds: &mut [u32], round: Round)
+    ensures { λ r. ⌜ now (rounds .exit) ≡ replicate (length (now (rounds .entry))) (round .0) ⌝ }
+{
+    for place in 0..rounds.len() {
+        rounds[place] = round.0;
+    }
+}
+
 // ---- sets and phases, a byte each
 
 pub fn byte_at(bytes: &[u8], index: usize) -> u8
@@ -40,6 +49,14 @@ pub fn put_byte(bytes: &mut [u8], index: usize, byte: u8)
 {
     if index < bytes.len() {
         bytes[index] = byte;
+    }
+}
+
+pub fn fill_bytes(bytes: &mut [u8], byte: u8)
+    ensures { λ r. ⌜ now (bytes .exit) ≡ replicate (length (now (bytes .entry))) byte ⌝ }
+{
+    for place in 0..bytes.len() {
+        bytes[place] = byte;
     }
 }
 
@@ -94,5 +111,14 @@ pub fn put_value(values: &mut [u64], index: usize, value: Value)
     }
     if index <= values.len() / 2 {
         put_half(values, 2 * index, value.high);
+    }
+}
+
+// One number in every half.
+pub fn fill_halves(values: &mut [u64], number: u64)
+    ensures { λ r. ⌜ now (values .exit) ≡ replicate (length (now (values .entry))) number ⌝ }
+{
+    for place in 0..values.len() {
+        values[place] = number;
     }
 }
