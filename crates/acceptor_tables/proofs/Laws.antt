@@ -11,13 +11,14 @@ use borrow.Author.Tests.{eqb-true, eq-eqb, ltb-true, lt-ltb}
 use Rattle.basics.specs.Rounds.{theRound, none}
 use Rattle.basics.proofs.Ladder.{both-true, and-true}
 use Rattle.columns.proofs.Columns.{round-there, round-apart, value-there, value-apart, fresh-number, fresh-value, below-set, below-value, below-fresh}
+use Rattle.columns.proofs.Fresh.{sets-fresh}
 use Rattle.quorum.specs.declared.Settings.{Settings}
 use Rattle.quorum.specs.Settings.{allowed}
 use Rattle.quorum.proofs.Laws.{allowed-brings}
 use Rattle.acceptor_rule.specs.declared.Cell.{Cell}
 use Rattle.acceptor_rule.proofs.Laws.{same-cell, CellFits}
-use Rattle.acceptor_tables.specs.Tables.{Tables, freshTables, cellAt, withCell, isAllowed, acceptorAllowed, Sized, Within, Fitting}
-use Rattle.acceptor_tables.specs.Promises.{FreshCells}
+use Rattle.acceptor_tables.specs.Tables.{Tables, freshTables, cellAt, withCell, tablesAllowed, isAllowed, acceptorAllowed, freshAllowed, acceptorFresh, Sized, Within, Fitting}
+use Rattle.acceptor_tables.specs.Promises.{FreshCells, FreshPromises}
 
 -- ---- settings
 
@@ -26,27 +27,31 @@ pub record Allowed (s : Settings) (own : ℕ) (t : Tables) : Type 0 where
   pub own-few : own ≤ 6
   pub sized : Sized (s .instances) t
 
+-- what settings and sizes bring that are allowed
+pub allowed-sizes : (s : Settings) (t : Tables) → freshAllowed s t ≡ true → (allowed s ≡ true) × Sized (s .instances) t
+unfolding tablesAllowed
+allowed-sizes s t e =
+    let n = s .instances in
+    let a = both-true (allowed s && eqb (length (t .rounds)) n && eqb (length (t .voteRounds)) n) (eqb (length (t .values)) (2 * n)) e in
+    let b = both-true (allowed s && eqb (length (t .rounds)) n) (eqb (length (t .voteRounds)) n) (a .0) in
+    let c = both-true (allowed s) (eqb (length (t .rounds)) n) (b .0) in
+    (c .0, record { of-rounds = eqb-true _ _ (c .1); of-vote-rounds = eqb-true _ _ (b .1); of-values = eqb-true _ _ (a .1) })
+
 pub allowed-tables : (s : Settings) (own : ℕ) (t : Tables) → acceptorAllowed s own t ≡ true → Allowed s own t
 unfolding isAllowed
 allowed-tables s own t e =
-    let n = s .instances in
-    let a = both-true (allowed s && ltb own (s .acceptors) && eqb (length (t .rounds)) n && eqb (length (t .voteRounds)) n) (eqb (length (t .values)) (2 * n)) e in
-    let b = both-true (allowed s && ltb own (s .acceptors) && eqb (length (t .rounds)) n) (eqb (length (t .voteRounds)) n) (a .0) in
-    let c = both-true (allowed s && ltb own (s .acceptors)) (eqb (length (t .rounds)) n) (b .0) in
-    let d = both-true (allowed s) (ltb own (s .acceptors)) (c .0) in
-    let below = ltb-true own (s .acceptors) (d .1) in
-    let few = allowed-brings s (d .0) in
-    record {
-      own-few = omega (arith, few .acceptors-most);
-      sized = record { of-rounds = eqb-true _ _ (c .1); of-vote-rounds = eqb-true _ _ (b .1); of-values = eqb-true _ _ (a .1) };
-    }
+    let both = both-true (freshAllowed s t) (ltb own (s .acceptors)) e in
+    let fine = allowed-sizes s t (both .0) in
+    let below = ltb-true own (s .acceptors) (both .1) in
+    let few = allowed-brings s (fine .0) in
+    record { own-few = omega (arith, few .acceptors-most); sized = fine .1 }
 
 -- tables of their sizes are allowed
 pub sized-allowed : (s : Settings) (own : ℕ) (t : Tables) → allowed s ≡ true → own < s .acceptors → Sized (s .instances) t → acceptorAllowed s own t ≡ true
-unfolding isAllowed
+unfolding tablesAllowed isAllowed
 sized-allowed s own t ok known sized =
-    and-true (and-true (and-true (and-true ok (lt-ltb own (s .acceptors) known)) (eq-eqb _ _ (sized .of-rounds))) (eq-eqb _ _ (sized .of-vote-rounds)))
-    (eq-eqb _ _ (sized .of-values))
+    and-true (and-true (and-true (and-true ok (eq-eqb _ _ (sized .of-rounds))) (eq-eqb _ _ (sized .of-vote-rounds))) (eq-eqb _ _ (sized .of-values)))
+    (lt-ltb own (s .acceptors) known)
 
 pub index-within : {n : ℕ} (t : Tables) (index : ℕ) → Sized n t → index < n → Within t index
 index-within t index sized low = record {
@@ -80,6 +85,10 @@ fresh-fitting N = record {
   fitting-vote-rounds = below-fresh (2 ^ 32) N (none .0) (lit< tt);
   fitting-values = below-fresh (2 ^ 64) (2 * N) 0 (lit< tt);
 }
+
+pub fresh-promises : (s : Settings) → FreshPromises s
+unfolding acceptorFresh
+fresh-promises s = sets-fresh (freshAllowed s) (freshTables (s .instances))
 
 pub fitting-at : (t : Tables) (index : ℕ) → Fitting t → CellFits (cellAt t index)
 fitting-at t index fits = record {

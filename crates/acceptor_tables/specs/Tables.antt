@@ -6,8 +6,10 @@ use mathlib.Core.Bool.{Bool, _&&_}
 use mathlib.Core.List.{List}
 use lib.Dec.{eqb, ltb}
 use lib.ListN.{length, replicate}
+use Rattle.basics.specs.Outcome.{Outcome}
 use Rattle.basics.specs.Rounds.{none}
 use Rattle.columns.specs.Columns.{roundAt, withRound, valueAt, withValue, Below}
+use Rattle.columns.specs.Fresh.{setFresh}
 use Rattle.quorum.specs.declared.Settings.{Settings}
 use Rattle.quorum.specs.Settings.{allowed}
 use Rattle.acceptor_rule.specs.declared.Cell.{Cell}
@@ -32,13 +34,24 @@ abbrev pub withCell : Tables → (index : ℕ) → Cell → Tables
 withCell t index c =
     tables (withRound (t .rounds) index (c .round)) (withRound (t .voteRounds) index (c .«vote_round»)) (withValue (t .values) index (c .value))
 
--- M and N are allowed, the own number is below M, and each table is sized for N.
+-- M and N are allowed, and each table is sized for N.
+unfoldable pub tablesAllowed : Settings → (rounds voteRounds values : ℕ) → Bool
+tablesAllowed s rounds voteRounds values = allowed s && eqb rounds (s .instances) && eqb voteRounds (s .instances) && eqb values (2 * s .instances)
+
+-- That, and the own number is below M.
 unfoldable pub isAllowed : Settings → (own rounds voteRounds values : ℕ) → Bool
-isAllowed s own rounds voteRounds values =
-    allowed s && ltb own (s .acceptors) && eqb rounds (s .instances) && eqb voteRounds (s .instances) && eqb values (2 * s .instances)
+isAllowed s own rounds voteRounds values = tablesAllowed s rounds voteRounds values && ltb own (s .acceptors)
 
 abbrev pub acceptorAllowed : Settings → (own : ℕ) → Tables → Bool
 acceptorAllowed s own t = isAllowed s own (length (t .rounds)) (length (t .voteRounds)) (length (t .values))
+
+-- The same of tables, where no own number is given.
+abbrev pub freshAllowed : Settings → Tables → Bool
+freshAllowed s t = tablesAllowed s (length (t .rounds)) (length (t .voteRounds)) (length (t .values))
+
+-- The tables as a run begins with them, whatever they held; 7 where they are not allowed.
+unfoldable pub acceptorFresh : Settings → Tables → Outcome Tables
+acceptorFresh s t = setFresh (freshAllowed s t) t (freshTables (s .instances))
 
 -- The tables have n cells each.
 pub record Sized (n : ℕ) (t : Tables) : Type 0 where

@@ -4,6 +4,7 @@ pub mod WellFormed
 pub mod Representing
 pub mod Calls
 pub mod Runs
+pub mod Begin
 pub mod Saying
 pub mod Deciding
 pub mod Delivering

@@ -43,7 +43,7 @@ module _ (s : Settings) (never : allowed s ≡ false) where
   learner-never t = rw never
 
   backup-never : (own : ℕ) (t : backupTables.Tables) → backupTables.backupAllowed s own t ≡ false
-  unfolding backupTables.isAllowed
+  unfolding backupTables.tablesAllowed backupTables.isAllowed
   backup-never own t = rw never
 
   -- ---- every call
@@ -57,7 +57,7 @@ module _ (s : Settings) (never : allowed s ≡ false) where
   request-by-7 p c = step-by-7 (primary.primaryByReference s) p c never
 
   acceptor-by-7 : (own : ℕ) (p : List ℕ) (t : acceptorTables.Tables) → acceptor.acceptorStep s own p t .answer ≡ 7
-  unfolding acceptor.acceptorStep acceptor.acceptor acceptorTables.isAllowed
+  unfolding acceptor.acceptorStep acceptor.acceptor acceptorTables.tablesAllowed acceptorTables.isAllowed
   acceptor-by-7 own p t = step-by-7 (acceptor.acceptor s own) p t (rw never)
 
   backup-by-7 : (own : ℕ) (p : List ℕ) (t : backupTables.Tables) → backup.backupStep s own p t .answer ≡ 7

@@ -1,4 +1,5 @@
 pub mod Run
+pub mod Begin
 pub mod Agreement
 pub mod Examples
 pub mod Slips

@@ -11,6 +11,7 @@ use borrow.Author.Tests.{eqb-true, eq-eqb, leb-true, le-leb}
 use Rattle.basics.specs.Rounds.{theRound, none}
 use Rattle.basics.proofs.Ladder.{both-true, and-true}
 use Rattle.columns.proofs.Columns.{number-there, number-apart, round-there, round-apart, value-there, value-apart, fresh-number, fresh-value, below-set, below-value, below-fresh}
+use Rattle.columns.proofs.Fresh.{sets-fresh}
 use Rattle.quorum.specs.declared.Settings.{Settings}
 use Rattle.quorum.specs.Settings.{allowed}
 use Rattle.quorum.proofs.Laws as quorums
@@ -18,8 +19,8 @@ use Rattle.quorum.proofs.Laws.{allowed-brings}
 use Rattle.backup_cell.specs.declared.Cell.{Cell}
 use Rattle.backup_cell.specs.Cell.{idle}
 use Rattle.backup_cell.proofs.Laws.{same-cell, CellFits}
-use Rattle.backup_tables.specs.Tables.{Tables, tables, freshTables, cellAt, withCell, isAllowed, backupAllowed, Sized, Within, Fitting}
-use Rattle.backup_tables.specs.Promises.{FreshCells}
+use Rattle.backup_tables.specs.Tables.{Tables, tables, freshTables, cellAt, withCell, tablesAllowed, isAllowed, backupAllowed, freshAllowed, backupFresh, Sized, Within, Fitting}
+use Rattle.backup_tables.specs.Promises.{FreshCells, FreshPromises}
 
 -- ---- settings
 
@@ -30,48 +31,51 @@ pub record Allowed (s : Settings) (own : ℕ) (t : Tables) : Type 0 where
   pub own-most : own ≤ 3
   pub sized : Sized (s .instances) t
 
-pub allowed-tables : (s : Settings) (own : ℕ) (t : Tables) → backupAllowed s own t ≡ true → Allowed s own t
-unfolding isAllowed
-allowed-tables s own t e =
+-- what settings and sizes bring that are allowed
+pub allowed-sizes : (s : Settings) (t : Tables) → freshAllowed s t ≡ true → (allowed s ≡ true) × Sized (s .instances) t
+unfolding tablesAllowed
+allowed-sizes s t e =
     let n = s .instances in
-    let mine = allowed s && leb 1 own && leb own 3 in
     let r = eqb (length (t .rounds)) n in
     let p = eqb (length (t .phases)) n in
     let m = eqb (length (t .sets)) n in
     let b = eqb (length (t .bestVoteRounds)) n in
     let v = eqb (length (t .bestValues)) (2 * n) in
-    let e7 = both-true (mine && r && p && m && b && v) (eqb (length (t .ownValues)) (2 * n)) e in
-    let e6 = both-true (mine && r && p && m && b) v (e7 .0) in
-    let e5 = both-true (mine && r && p && m) b (e6 .0) in
-    let e4 = both-true (mine && r && p) m (e5 .0) in
-    let e3 = both-true (mine && r) p (e4 .0) in
-    let e2 = both-true mine r (e3 .0) in
-    let e1 = both-true (allowed s && leb 1 own) (leb own 3) (e2 .0) in
-    let e0 = both-true (allowed s) (leb 1 own) (e1 .0) in
-    record {
-      few = allowed-brings s (e0 .0);
-      own-least = leb-true 1 own (e0 .1);
-      own-most = leb-true own 3 (e1 .1);
-      sized = record {
-        of-rounds = eqb-true _ _ (e2 .1);
-        of-phases = eqb-true _ _ (e3 .1);
-        of-sets = eqb-true _ _ (e4 .1);
-        of-best-vote-rounds = eqb-true _ _ (e5 .1);
-        of-best-values = eqb-true _ _ (e6 .1);
-        of-own-values = eqb-true _ _ (e7 .1);
-      };
-    }
+    let e6 = both-true (allowed s && r && p && m && b && v) (eqb (length (t .ownValues)) (2 * n)) e in
+    let e5 = both-true (allowed s && r && p && m && b) v (e6 .0) in
+    let e4 = both-true (allowed s && r && p && m) b (e5 .0) in
+    let e3 = both-true (allowed s && r && p) m (e4 .0) in
+    let e2 = both-true (allowed s && r) p (e3 .0) in
+    let e1 = both-true (allowed s) r (e2 .0) in (
+      e1 .0,
+      record {
+        of-rounds = eqb-true _ _ (e1 .1);
+        of-phases = eqb-true _ _ (e2 .1);
+        of-sets = eqb-true _ _ (e3 .1);
+        of-best-vote-rounds = eqb-true _ _ (e4 .1);
+        of-best-values = eqb-true _ _ (e5 .1);
+        of-own-values = eqb-true _ _ (e6 .1);
+      },
+    )
+
+pub allowed-tables : (s : Settings) (own : ℕ) (t : Tables) → backupAllowed s own t ≡ true → Allowed s own t
+unfolding isAllowed
+allowed-tables s own t e =
+    let most = both-true (freshAllowed s t && leb 1 own) (leb own 3) e in
+    let least = both-true (freshAllowed s t) (leb 1 own) (most .0) in
+    let fine = allowed-sizes s t (least .0) in
+    record { few = allowed-brings s (fine .0); own-least = leb-true 1 own (least .1); own-most = leb-true own 3 (most .1); sized = fine .1 }
 
 -- tables of their sizes are allowed
 pub sized-allowed : (s : Settings) (own : ℕ) (t : Tables) → allowed s ≡ true → 1 ≤ own → own ≤ 3 → Sized (s .instances) t → backupAllowed s own t ≡ true
-unfolding isAllowed
+unfolding tablesAllowed isAllowed
 sized-allowed s own t ok least most sized =
-    let mine = and-true (and-true ok (le-leb 1 own least)) (le-leb own 3 most) in
-    let rounds-so = and-true mine (eq-eqb _ _ (sized .of-rounds)) in
+    let rounds-so = and-true ok (eq-eqb _ _ (sized .of-rounds)) in
     let phases-so = and-true rounds-so (eq-eqb _ _ (sized .of-phases)) in
     let sets-so = and-true phases-so (eq-eqb _ _ (sized .of-sets)) in
     let best-so = and-true sets-so (eq-eqb _ _ (sized .of-best-vote-rounds)) in
-    and-true (and-true best-so (eq-eqb _ _ (sized .of-best-values))) (eq-eqb _ _ (sized .of-own-values))
+    let values-so = and-true (and-true best-so (eq-eqb _ _ (sized .of-best-values))) (eq-eqb _ _ (sized .of-own-values)) in
+    and-true (and-true values-so (le-leb 1 own least)) (le-leb own 3 most)
 
 pub index-within : {n : ℕ} (t : Tables) (index : ℕ) → Sized n t → index < n → Within t index
 index-within t index sized low = record {
@@ -125,6 +129,10 @@ fresh-fitting N = record {
   fitting-best-values = below-fresh (2 ^ 64) (2 * N) 0 (lit< tt);
   fitting-own-values = below-fresh (2 ^ 64) (2 * N) 0 (lit< tt);
 }
+
+pub fresh-promises : (s : Settings) → FreshPromises s
+unfolding backupFresh
+fresh-promises s = sets-fresh (freshAllowed s) (freshTables (s .instances))
 
 pub fitting-at : (t : Tables) (index : ℕ) → Fitting t → CellFits (cellAt t index)
 fitting-at t index fits = record {

@@ -6,8 +6,10 @@ use mathlib.Core.Bool.{Bool, _&&_}
 use mathlib.Core.List.{List}
 use lib.Dec.{eqb, leb}
 use lib.ListN.{length, replicate}
+use Rattle.basics.specs.Outcome.{Outcome}
 use Rattle.basics.specs.Rounds.{none}
 use Rattle.columns.specs.Columns.{roundAt, withRound, byteAt, withByte, valueAt, withValue, Below}
+use Rattle.columns.specs.Fresh.{setFresh}
 use Rattle.quorum.specs.declared.Settings.{Settings}
 use Rattle.quorum.specs.Settings.{allowed}
 use Rattle.backup_cell.specs.declared.Cell.{Cell}
@@ -39,15 +41,29 @@ withCell t index c =
     tables (withRound (t .rounds) index (c .round)) (withByte (t .phases) index (c .phase)) (withByte (t .sets) index (c .set))
     (withRound (t .bestVoteRounds) index (c .«best_vote_round»)) (withValue (t .bestValues) index (c .«best_value»)) (withValue (t .ownValues) index (c .«own_value»))
 
--- M and N are allowed, the own number is 1 to 3, and each table is sized for N.
+-- M and N are allowed, and each table is sized for N.
+unfoldable pub tablesAllowed : Settings → (rounds phases sets bestVoteRounds bestValues ownValues : ℕ) → Bool
+tablesAllowed s rounds phases sets bestVoteRounds bestValues ownValues =
+    allowed s && eqb rounds (s .instances) && eqb phases (s .instances) && eqb sets (s .instances) && eqb bestVoteRounds (s .instances)
+    && eqb bestValues (2 * s .instances) && eqb ownValues (2 * s .instances)
+
+-- That, and the own number is 1 to 3.
 unfoldable pub isAllowed : Settings → (own rounds phases sets bestVoteRounds bestValues ownValues : ℕ) → Bool
 isAllowed s own rounds phases sets bestVoteRounds bestValues ownValues =
-    allowed s && leb 1 own && leb own 3 && eqb rounds (s .instances) && eqb phases (s .instances) && eqb sets (s .instances) && eqb bestVoteRounds (s .instances)
-    && eqb bestValues (2 * s .instances) && eqb ownValues (2 * s .instances)
+    tablesAllowed s rounds phases sets bestVoteRounds bestValues ownValues && leb 1 own && leb own 3
 
 abbrev pub backupAllowed : Settings → (own : ℕ) → Tables → Bool
 backupAllowed s own t =
     isAllowed s own (length (t .rounds)) (length (t .phases)) (length (t .sets)) (length (t .bestVoteRounds)) (length (t .bestValues)) (length (t .ownValues))
+
+-- The same of tables, where no own number is given.
+abbrev pub freshAllowed : Settings → Tables → Bool
+freshAllowed s t =
+    tablesAllowed s (length (t .rounds)) (length (t .phases)) (length (t .sets)) (length (t .bestVoteRounds)) (length (t .bestValues)) (length (t .ownValues))
+
+-- The tables as a run begins with them, whatever they held; 7 where they are not allowed.
+unfoldable pub backupFresh : Settings → Tables → Outcome Tables
+backupFresh s t = setFresh (freshAllowed s t) t (freshTables (s .instances))
 
 -- The tables have n cells each.
 pub record Sized (n : ℕ) (t : Tables) : Type 0 where

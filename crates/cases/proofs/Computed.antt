@@ -40,9 +40,9 @@ unfolding ones numberAt if_then_else_ need_or_then_ ownerOf ownedOr0 ownedNot0 r
     keepsTable messageOf fieldsOf whenRequest whenPrepare whenPromise whenPropose whenVote fieldsIn readPacket packetWith packetOf afterReading afterPlacing ruled ruleAt act step
     acceptorsAllowed instancesAllowed allowed majority bit hasMember withMember within reaches cellsFrom every
     primaryRule.possible primaryRule.takeRequest primary.isAllowed primary.primary primary.primaryStep primary.primaryByReference primary.primaryRequest
-    acceptorRule.possible acceptorRule.orderOf acceptorRule.obeying acceptorRule.obey acceptorTables.isAllowed acceptor.acceptor acceptor.acceptorStep
+    acceptorRule.possible acceptorRule.orderOf acceptorRule.obeying acceptorRule.obey acceptorTables.tablesAllowed acceptorTables.isAllowed acceptor.acceptor acceptor.acceptorStep
     backupCell.isFresh backupCell.phaseFits backupCell.isStarted backupCell.possible backupRule.nextRound backupRule.start backupRule.counting backupRule.chosen
-    backupRule.whenMajority backupRule.takePromise backupTables.isAllowed backup.backup backup.backupStep backup.backupStart
+    backupRule.whenMajority backupRule.takePromise backupTables.tablesAllowed backupTables.isAllowed backup.backup backup.backupStep backup.backupStart
     learnerCell.isDecided learnerCell.valueOf learnerCell.isFresh learnerCell.isHeard learnerCell.possible learnerRule.holdOrDecide learnerRule.addVoter learnerRule.countVote
     learnerTables.isAllowed learner.place learner.rule learner.learner learner.learnerStep learner.answerOfCell learner.answerAt learner.answerFor learner.answered
     deliver holes.decidedEndFrom holes.isHole holes.firstHoleFrom holes.findHole holes.answered header marked sameSettings

@@ -10,14 +10,15 @@ use borrow.Author.Tests.{eqb-true, eq-eqb}
 use Rattle.basics.specs.Rounds.{theRound, none}
 use Rattle.columns.proofs.Columns.{number-there, number-apart, round-there, round-apart, value-there, value-apart, fresh-number, fresh-value, below-set, below-value, below-fresh}
 use Rattle.basics.proofs.Ladder.{both-true, and-true}
+use Rattle.columns.proofs.Fresh.{sets-fresh}
 use Rattle.quorum.specs.declared.Settings.{Settings}
 use Rattle.quorum.specs.Settings.{allowed}
 use Rattle.quorum.proofs.Laws as quorums
 use Rattle.quorum.proofs.Laws.{allowed-brings}
 use Rattle.learner_cell.specs.declared.Cell.{Cell}
 use Rattle.learner_cell.proofs.Laws.{same-cell, CellFits}
-use Rattle.learner_tables.specs.Tables.{Tables, freshTables, cellAt, withCell, isAllowed, learnerAllowed, Sized, Within, Fitting}
-use Rattle.learner_tables.specs.Promises.{FreshCells}
+use Rattle.learner_tables.specs.Tables.{Tables, freshTables, cellAt, withCell, isAllowed, learnerAllowed, learnerFresh, Sized, Within, Fitting}
+use Rattle.learner_tables.specs.Promises.{FreshCells, FreshPromises}
 
 -- ---- settings
 
@@ -72,6 +73,10 @@ fresh-fitting N = record {
   fitting-sets = below-fresh (2 ^ 8) N 0 (lit< tt);
   fitting-values = below-fresh (2 ^ 64) (2 * N) 0 (lit< tt);
 }
+
+pub fresh-promises : (s : Settings) → FreshPromises s
+unfolding learnerFresh
+fresh-promises s = sets-fresh (learnerAllowed s) (freshTables (s .instances))
 
 pub fitting-at : (t : Tables) (index : ℕ) → Fitting t → CellFits (cellAt t index)
 fitting-at t index fits = record {

@@ -6,8 +6,10 @@ use mathlib.Core.Bool.{Bool, _&&_}
 use mathlib.Core.List.{List}
 use lib.Dec.{eqb}
 use lib.ListN.{length, set, replicate}
+use Rattle.basics.specs.Outcome.{Outcome}
 use Rattle.basics.specs.Rounds.{none}
 use Rattle.columns.specs.Columns.{roundAt, withRound, byteAt, withByte, valueAt, withValue, Below}
+use Rattle.columns.specs.Fresh.{setFresh}
 use Rattle.columns.specs.Walks.{cellsFrom, every}
 use Rattle.quorum.specs.declared.Settings.{Settings}
 use Rattle.quorum.specs.Settings.{allowed}
@@ -49,6 +51,10 @@ isAllowed s rounds sets values = allowed s && eqb rounds (s .instances) && eqb s
 
 abbrev pub learnerAllowed : Settings → Tables → Bool
 learnerAllowed s t = isAllowed s (length (t .rounds)) (length (t .sets)) (length (t .values))
+
+-- The tables as a run begins with them, whatever they held; 7 where they are not allowed.
+unfoldable pub learnerFresh : Settings → Tables → Outcome Tables
+learnerFresh s t = setFresh (learnerAllowed s t) t (freshTables (s .instances))
 
 -- The tables have n cells each.
 pub record Sized (n : ℕ) (t : Tables) : Type 0 where

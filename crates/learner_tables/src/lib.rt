@@ -1,6 +1,10 @@
 // A learner's lent tables: one cell for each instance, as columns of rounds, of sets and of values.
 ghost use mathlib.Core.Path.{_≡_};
-ghost use Rattle.learner_tables.specs.Tables.{tables, cellAt, withCell, firstCells, allPossible, isAllowed};
+ghost use Rattle.basics.specs.Outcome.{outcome};
+ghost use Rattle.quorum.specs.Settings.{settings};
+ghost use Rattle.learner_tables.specs.Tables.{tables, cellAt, withCell, firstCells, allPossible, isAllowed, learnerFresh};
+use basics::Round;
+use basics::Verdict;
 use learner_cell::Cell;
 use quorum::Settings;
 
@@ -46,4 +50,31 @@ pub fn all_possible(acceptors: u32, count: u32, rounds: &[u32], sets: &[u8], val
         }
     }
     true
+}
+
+// The tables as a run begins with them, whatever they held: no round, no voter, no value. They are left as `learnerFresh` says.
+#[no_mangle]
+pub extern "C" fn myrthakel_learner_fresh(
+    acceptors: u32,
+    instances: u32,
+    rounds: &mut [u32],
+    sets: &mut [u8],
+    values: &mut [u64],
+) -> u32
+    ensures { λ r.
+        let before = tables (now (rounds .entry)) (now (sets .entry)) (now (values .entry)) in
+        let after = tables (now (rounds .exit)) (now (sets .exit)) (now (values .exit)) in
+        ⌜ outcome r after ≡ learnerFresh (settings acceptors instances) before ⌝ }
+{
+    let settings = Settings {
+        acceptors,
+        instances,
+    };
+    if !is_allowed(settings, rounds.len(), sets.len(), values.len()) {
+        return 7;
+    }
+    columns::fill_rounds(rounds, Round(basics::NONE));
+    columns::fill_bytes(sets, 0);
+    columns::fill_halves(values, 0);
+    basics::verdict_number(Verdict::Done)
 }

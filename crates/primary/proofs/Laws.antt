@@ -27,11 +27,12 @@ use Rattle.player.proofs.Steps.{step-rules}
 use Rattle.quorum.specs.declared.Settings.{Settings}
 use Rattle.quorum.specs.Settings.{allowed}
 use Rattle.columns.proofs.Columns.{number-there, number-apart, below-set}
+use Rattle.columns.proofs.Fresh.{sets-fresh}
 use Rattle.primary_rule.specs.declared.Cell.{Cell}
 use Rattle.primary_rule.specs.Rule.{cell, proposing}
 use Rattle.primary_rule.proofs.Laws.{take-elim, proposes, CellFits}
-use Rattle.primary.specs.Primary.{cellAt, withCell, isAllowed, primaryAllowed, Fitting, place, rule, primary, primaryStep, primaryByReference, primaryRequest, asSlice}
-use Rattle.primary.specs.Promises.{proposed, SliceIsTheRecord}
+use Rattle.primary.specs.Primary.{cellAt, withCell, isAllowed, primaryAllowed, freshRecord, primaryFresh, Fitting, place, rule, primary, primaryStep, primaryByReference, primaryRequest, asSlice}
+use Rattle.primary.specs.Promises.{FreshPromises, proposed, SliceIsTheRecord}
 
 -- ---- the record as a slice
 
@@ -62,6 +63,10 @@ fitting-at next index fits = record { next-fits = fits index }
 
 pub fitting-with : (next : List ℕ) (index : ℕ) (c : Cell) → Fitting next → CellFits c → Fitting (withCell next index c)
 fitting-with next index c fits cell-fits = below-set (2 ^ 32) next index (c .next .0) fits (cell-fits .next-fits)
+
+pub fresh-promises : (s : Settings) → FreshPromises s
+unfolding primaryFresh
+fresh-promises s = sets-fresh (primaryAllowed s) freshRecord
 
 -- ---- the rule and the place
 

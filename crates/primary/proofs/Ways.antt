@@ -1,4 +1,5 @@
--- Each way out of the primary's step, over the cell by value and over the slice that lent it, is what the definitions say, by the tests that led there.
+-- Each way out of the primary's step, over the cell by value and over the slice that lent it, is what the definitions say, by the tests that led there; and each of
+-- the call that sets the slice fresh.
 -- Assumes nothing.
 use Prim.Native.Nat.{ℕ}
 use mathlib.Core.Path.{_≡_, refl, sym, ap, _∙_}
@@ -11,7 +12,7 @@ use types.Run.{OneOf}
 use borrow.Author.Tests.{not-false}
 use Rattle.basics.specs.declared.Place.the-variants.{At, Nowhere}
 use Rattle.basics.specs.declared.Value.{Value}
-use Rattle.basics.specs.declared.Verdict.the-variants.{ToAcceptors}
+use Rattle.basics.specs.declared.Verdict.the-variants.{ToAcceptors, Done}
 use Rattle.basics.specs.Outcome.{Outcome, outcome, Lent, lent}
 use Rattle.basics.specs.Rounds.{theInstance}
 use Rattle.basics.specs.Verdict.{verdictNumber}
@@ -23,6 +24,7 @@ use Rattle.messages.proofs.Message.{the-type}
 use Rattle.wire.specs.declared.Reading.{Reading}
 use Rattle.wire.specs.declared.Reading.the-variants.{Read, Refused}
 use Rattle.wire.specs.Packet.{packetLength, readPacket, refusalOf, withMessage}
+use Rattle.columns.proofs.Fresh.{fresh-refused, fresh-done}
 use Rattle.player.specs.Step.{unchanged, ruled, act}
 use Rattle.player.proofs.Steps as steps
 use Rattle.quorum.specs.declared.Settings.{Settings}
@@ -30,8 +32,8 @@ use Rattle.quorum.specs.Settings.{allowed}
 use Rattle.primary_rule.specs.declared.Cell.{Cell}
 use Rattle.primary_rule.specs.declared.Ruled.{Ruled}
 use Rattle.primary_rule.specs.declared.Ruled.the-variants as answers
-use Rattle.primary_rule.specs.Rule.{cell, takeRequest, rulingOf}
-use Rattle.primary.specs.Primary.{isAllowed, primaryAllowed, rule, primary, primaryStep, primaryByReference, primaryRequest, asSlice}
+use Rattle.primary_rule.specs.Rule.{cell, freshCell, takeRequest, rulingOf}
+use Rattle.primary.specs.Primary.{isAllowed, primaryAllowed, freshRecord, primaryFresh, rule, primary, primaryStep, primaryByReference, primaryRequest, asSlice}
 use Rattle.primary.proofs.Laws.{allowed-next, slice-is-the-record}
 
 -- ---- what the rule came to, sent
@@ -91,3 +93,20 @@ pub stored : (s : Settings) (packet next : List ℕ) → length next ≡ 1 → (
 stored s packet [] long o o-so = absurd (omega arith)
 stored s packet (number ∷ []) long o o-so = ap asSlice o-so ∙ sym (slice-is-the-record s packet number)
 stored s packet (number ∷ second ∷ rest) long o o-so = absurd (omega arith)
+
+-- ---- the record set fresh
+
+module _ (s : Settings) (next : List ℕ) (fine : Bool) (fine-so : fine ≡ primaryAllowed s next) where
+  pub fresh-refused-7 : not fine ≡ true → outcome 7 next ≡ primaryFresh s next
+  unfolding primaryFresh
+  fresh-refused-7 no-way = fresh-refused next freshRecord fine-so no-way
+
+  pub freshly-stored : not fine ≡ false → (answer : ℕ) (c : Cell) → answer ≡ verdictNumber Done → c ≡ freshCell → outcome answer (set next 0 (c .next .0)) ≡ primaryFresh s next
+  unfolding primaryFresh
+  freshly-stored passed answer c answer-so c-so =
+      fresh-done next freshRecord fine-so passed answer-so (one-stored next (one-number s (length next) fine fine-so passed) ∙ ap (λ fresh. fresh .next .0 ∷ []) c-so)
+    where
+      one-stored : (before : List ℕ) → length before ≡ 1 → set before 0 (c .next .0) ≡ c .next .0 ∷ []
+      one-stored [] long = absurd (omega arith)
+      one-stored (number ∷ []) long = refl
+      one-stored (number ∷ second ∷ rest) long = absurd (omega arith)

@@ -16,8 +16,9 @@ use Rattle.player.specs.Step.{Ruling, refused, Player, step}
 use Rattle.quorum.specs.declared.Settings.{Settings}
 use Rattle.quorum.specs.Settings.{allowed}
 use Rattle.columns.specs.Columns.{Below}
+use Rattle.columns.specs.Fresh.{setFresh}
 use Rattle.primary_rule.specs.declared.Cell.{Cell}
-use Rattle.primary_rule.specs.Rule.{cell, takeRequest}
+use Rattle.primary_rule.specs.Rule.{cell, freshCell, takeRequest}
 
 -- ---- the record as a slice of one number
 
@@ -33,6 +34,14 @@ isAllowed s next = allowed s && eqb next 1
 
 abbrev pub primaryAllowed : Settings → (next : List ℕ) → Bool
 primaryAllowed s next = isAllowed s (length next)
+
+-- The fresh record: the next instance is 0.
+abbrev pub freshRecord : List ℕ
+freshRecord = freshCell .next .0 ∷ []
+
+-- The record as a run begins with it, whatever it held; 7 where it is not allowed.
+unfoldable pub primaryFresh : Settings → (next : List ℕ) → Outcome (List ℕ)
+primaryFresh s next = setFresh (primaryAllowed s next) next freshRecord
 
 -- Its number fits its width, as that of a lent slice does.
 abbrev pub Fitting : (next : List ℕ) → Type 0

@@ -13,11 +13,12 @@ use Rattle.messages.specs.declared.Message.the-variants.{Request, Propose}
 use Rattle.wire.specs.declared.Reading.the-variants.{Read}
 use Rattle.wire.specs.Packet.{readPacket, packetOf}
 use Rattle.player.specs.Promises.{packetRefusals, NumbersAre, RefusalKeepsAll, UsesCell, OtherCellsStay, PossibleStays, SendsKept, FittingStays}
+use Rattle.columns.specs.Fresh.{SetsFresh}
 use Rattle.quorum.specs.declared.Settings.{Settings}
 use Rattle.quorum.specs.Settings.{allowed}
 use Rattle.primary_rule.specs.declared.Cell.{Cell}
 use Rattle.primary_rule.specs.Rule.{cell, possible}
-use Rattle.primary.specs.Primary.{cellAt, Fitting, primary, primaryStep, primaryRequest, asSlice}
+use Rattle.primary.specs.Primary.{cellAt, primaryAllowed, freshRecord, primaryFresh, Fitting, primary, primaryStep, primaryRequest, asSlice}
 
 -- Order for a packet: 7, 1 to 5, 6, 17, 12. A request names no instance and no sender to judge, so 8 and 9 of the common order never occur.
 abbrev pub refusals : List ℕ
@@ -46,6 +47,10 @@ pub record RequestPromises (s : Settings) : Type 0 where
   pub possible-stays : PossibleStays (primaryRequest s) (λ c index. c) (possible (s .instances))
   pub sends-kept : SendsKept (primaryRequest s) CellFitting
   pub fitting-stays : FittingStays (primaryRequest s) CellFitting
+
+-- Of the call that sets the record fresh: it answers 7 or done alone. 7 keeps the record, and done leaves the fresh one, with which a run begins.
+abbrev pub FreshPromises : Settings → Type 0
+FreshPromises s = SetsFresh (primaryFresh s) (primaryAllowed s) freshRecord
 
 -- ---- the two forms in which the record is lent
 

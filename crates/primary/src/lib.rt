@@ -6,7 +6,7 @@ ghost use Rattle.wire.specs.Packet.{packetLength};
 ghost use Rattle.player.specs.Step.{ruled};
 ghost use Rattle.quorum.specs.Settings.{settings};
 ghost use Rattle.primary_rule.specs.Rule.{rulingOf};
-ghost use Rattle.primary.specs.Primary.{isAllowed, primaryStep, primaryRequest};
+ghost use Rattle.primary.specs.Primary.{isAllowed, primaryFresh, primaryStep, primaryRequest};
 use basics::Instance;
 use basics::Verdict;
 use messages::Message;
@@ -20,6 +20,23 @@ pub fn is_allowed(settings: Settings, next: usize) -> bool
     ensures { λ r. ⌜ r ≡ isAllowed settings next ⌝ }
 {
     quorum::settings_allowed(settings) & (next == 1)
+}
+
+// The record as a run begins with it, whatever it held: the next instance is 0. It is left as `primaryFresh` says.
+#[no_mangle]
+pub extern "C" fn myrthakel_primary_fresh(acceptors: u32, instances: u32, next: &mut [u32]) -> u32
+    ensures { λ r. ⌜ outcome r (now (next .exit)) ≡ primaryFresh (settings acceptors instances) (now (next .entry)) ⌝ }
+{
+    let settings = Settings {
+        acceptors,
+        instances,
+    };
+    if !is_allowed(settings, next.len()) {
+        return 7;
+    }
+    let cell = primary_rule::fresh_cell();
+    next[0] = cell.next.0;
+    basics::verdict_number(Verdict::Done)
 }
 
 // What a step answers, and the cell afterwards.

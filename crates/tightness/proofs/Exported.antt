@@ -5,6 +5,10 @@ use Rattle.tightness.specs.Exported.{ExportedCalls}
 
 pub exported-calls : ExportedCalls
 exported-calls = record {
+  of-primary-fresh = λ _ _ _ _ told. told;
+  of-acceptor-fresh = λ _ _ _ _ told. told;
+  of-backup-fresh = λ _ _ _ _ told. told;
+  of-learner-fresh = λ _ _ _ _ told. told;
   of-primary-step = λ _ _ _ _ told. told;
   of-primary-request = λ _ _ _ _ _ _ _ _ _. refl;
   of-acceptor-step = λ _ _ _ _ told. told;

@@ -17,17 +17,24 @@ use Rattle.basics.specs.Outcome.{outcome, lent}
 use Rattle.basics.specs.Rounds.{theInstance}
 use Rattle.basics.specs.Values.{theValue}
 use Rattle.quorum.specs.Settings.{settings}
-use Rattle.primary.specs.Primary.{primaryStep}
+use Rattle.primary.specs.Primary.{primaryFresh, primaryStep}
+use Rattle.primary.proofs.myrthakel_primary_fresh.Reads as primary-fresh
 use Rattle.primary.proofs.myrthakel_primary_step.Reads as primary-step
 use Rattle.primary.proofs.myrthakel_primary_request as primary-request
 use Rattle.acceptor_tables.specs.Tables as acceptors
+use Rattle.acceptor_tables.specs.Tables.{acceptorFresh}
+use Rattle.acceptor_tables.proofs.myrthakel_acceptor_fresh.Reads as acceptor-fresh
 use Rattle.acceptor.specs.Acceptor.{acceptorStep}
 use Rattle.acceptor.proofs.myrthakel_acceptor_step.Reads as acceptor-step
 use Rattle.backup_tables.specs.Tables as backups
+use Rattle.backup_tables.specs.Tables.{backupFresh}
+use Rattle.backup_tables.proofs.myrthakel_backup_fresh.Reads as backup-fresh
 use Rattle.backup.specs.Backup.{backupStart, backupStep}
 use Rattle.backup.proofs.myrthakel_backup_start.Reads as backup-start
 use Rattle.backup.proofs.myrthakel_backup_step.Reads as backup-step
 use Rattle.learner_tables.specs.Tables as learners
+use Rattle.learner_tables.specs.Tables.{learnerFresh}
+use Rattle.learner_tables.proofs.myrthakel_learner_fresh.Reads as learner-fresh
 use Rattle.learner.specs.Learner as learner
 use Rattle.learner.specs.Learner.{learnerStep, answerFor}
 use Rattle.learner.proofs.myrthakel_learner_step.Reads as learner-step
@@ -49,6 +56,21 @@ Does {Lifetimes} {Entry} {Answer} {Exit} promise equation =
     (κs : Lifetimes) (entry : Entry κs) (answer : Answer κs) (exit : Exit κs) → promise κs entry answer exit → equation κs entry answer exit
 
 pub record ExportedCalls : Type 2 where
+  -- With these four a run begins (`RunBegins` of agreement).
+  pub of-primary-fresh : Does primary-fresh.Learnt λ _ (M, (N, (next, _))) answer (_, (_, (next′, _))).
+      outcome answer (now next′)
+      ≡ primaryFresh (settings M N) (now next)
+  pub of-acceptor-fresh : Does acceptor-fresh.Learnt λ _ (M, (N, (rounds, (voteRounds, (values, _))))) answer (_, (_, (rounds′, (voteRounds′, (values′, _))))).
+      outcome answer (acceptors.tables (now rounds′) (now voteRounds′) (now values′))
+      ≡ acceptorFresh (settings M N) (acceptors.tables (now rounds) (now voteRounds) (now values))
+  pub of-backup-fresh : Does backup-fresh.Learnt
+      λ _ (M, (N, (rounds, (phases, (sets, (bestVoteRounds, (bestValues, (ownValues, _))))))))
+      answer (_, (_, (rounds′, (phases′, (sets′, (bestVoteRounds′, (bestValues′, (ownValues′, _)))))))).
+      outcome answer (backups.tables (now rounds′) (now phases′) (now sets′) (now bestVoteRounds′) (now bestValues′) (now ownValues′))
+      ≡ backupFresh (settings M N) (backups.tables (now rounds) (now phases) (now sets) (now bestVoteRounds) (now bestValues) (now ownValues))
+  pub of-learner-fresh : Does learner-fresh.Learnt λ _ (M, (N, (rounds, (sets, (values, _))))) answer (_, (_, (rounds′, (sets′, (values′, _))))).
+      outcome answer (learners.tables (now rounds′) (now sets′) (now values′))
+      ≡ learnerFresh (settings M N) (learners.tables (now rounds) (now sets) (now values))
   pub of-primary-step : Does primary-step.Learnt λ _ (M, (N, (packet, (next, _)))) answer (_, (_, (packet′, (next′, _)))).
       outcome answer (lent (now packet′) (now next′))
       ≡ primaryStep (settings M N) (now packet) (now next)

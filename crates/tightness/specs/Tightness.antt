@@ -44,14 +44,18 @@ use Rattle.quorum.proofs.reaches.Reads as reaches
 use Rattle.quorum.proofs.reaches_majority.Reads as reaches-majority
 use Rattle.columns.proofs.round_at.Reads as column-round-at
 use Rattle.columns.proofs.put_round.Reads as column-put-round
+use Rattle.columns.proofs.fill_rounds.Reads as column-fill-rounds
 use Rattle.columns.proofs.byte_at.Reads as column-byte-at
 use Rattle.columns.proofs.put_byte.Reads as column-put-byte
+use Rattle.columns.proofs.fill_bytes.Reads as column-fill-bytes
 use Rattle.columns.proofs.value_at.Reads as column-value-at
 use Rattle.columns.proofs.put_value.Reads as column-put-value
+use Rattle.columns.proofs.fill_halves.Reads as column-fill-halves
 use Rattle.primary_rule.proofs.fresh_cell.Reads as primary-fresh-cell
 use Rattle.primary_rule.proofs.is_possible.Reads as primary-is-possible
 use Rattle.primary_rule.proofs.take_request.Reads as take-request
 use Rattle.primary.proofs.is_allowed.Reads as primary-is-allowed
+use Rattle.primary.proofs.myrthakel_primary_fresh.Reads as primary-fresh
 use Rattle.primary.proofs.myrthakel_primary_step.Reads as primary-step
 use Rattle.primary.proofs.myrthakel_primary_request as primary-request
 use Rattle.acceptor_rule.proofs.fresh_cell.Reads as acceptor-fresh-cell
@@ -59,6 +63,7 @@ use Rattle.acceptor_rule.proofs.is_possible.Reads as acceptor-is-possible
 use Rattle.acceptor_rule.proofs.order_of.Reads as order-of
 use Rattle.acceptor_rule.proofs.obey.Reads as obey
 use Rattle.acceptor_tables.proofs.is_allowed.Reads as acceptor-is-allowed
+use Rattle.acceptor_tables.proofs.myrthakel_acceptor_fresh.Reads as acceptor-fresh
 use Rattle.acceptor.proofs.myrthakel_acceptor_step.Reads as acceptor-step
 use Rattle.backup_cell.proofs.fresh_cell.Reads as backup-fresh-cell
 use Rattle.backup_cell.proofs.is_possible.Reads as backup-is-possible
@@ -67,6 +72,7 @@ use Rattle.backup_rule.proofs.take_promise.Reads as take-promise
 use Rattle.backup_tables.proofs.is_allowed.Reads as backup-is-allowed
 use Rattle.backup_tables.proofs.cell_at.Reads as backup-cell-at
 use Rattle.backup_tables.proofs.store_cell.Reads as backup-store-cell
+use Rattle.backup_tables.proofs.myrthakel_backup_fresh.Reads as backup-fresh
 use Rattle.backup.proofs.myrthakel_backup_start.Reads as backup-start
 use Rattle.backup.proofs.myrthakel_backup_step.Reads as backup-step
 use Rattle.learner_cell.proofs.fresh_cell.Reads as learner-fresh-cell
@@ -79,6 +85,7 @@ use Rattle.learner_tables.proofs.is_allowed.Reads as learner-is-allowed
 use Rattle.learner_tables.proofs.cell_at.Reads as learner-cell-at
 use Rattle.learner_tables.proofs.store_cell.Reads as learner-store-cell
 use Rattle.learner_tables.proofs.all_possible.Reads as all-possible
+use Rattle.learner_tables.proofs.myrthakel_learner_fresh.Reads as learner-fresh
 use Rattle.learner.proofs.myrthakel_learner_step.Reads as learner-step
 use Rattle.learner.proofs.answer_for.Reads as answer-for
 use Rattle.learner.proofs.myrthakel_learner_answer.Reads as learner-answer
@@ -177,16 +184,20 @@ pub record EveryCall : Type 0 where
   -- columns
   pub of-column-round-at : OneAnswer column-round-at.Learnt
   pub of-column-put-round : OneContent column-put-round.Learnt (λ κs exit. held-1 exit)
+  pub of-column-fill-rounds : OneContent column-fill-rounds.Learnt (λ κs exit. held-1 exit)
   pub of-column-byte-at : OneAnswer column-byte-at.Learnt
   pub of-column-put-byte : OneContent column-put-byte.Learnt (λ κs exit. held-1 exit)
+  pub of-column-fill-bytes : OneContent column-fill-bytes.Learnt (λ κs exit. held-1 exit)
   pub of-column-value-at : OneAnswer column-value-at.Learnt
   pub of-column-put-value : OneContent column-put-value.Learnt (λ κs exit. held-1 exit)
+  pub of-column-fill-halves : OneContent column-fill-halves.Learnt (λ κs exit. held-1 exit)
   -- primary_rule
   pub of-primary-fresh-cell : OneAnswer primary-fresh-cell.Learnt
   pub of-primary-is-possible : OneAnswer primary-is-possible.Learnt
   pub of-take-request : OneAnswer take-request.Learnt
   -- primary
   pub of-primary-is-allowed : OneAnswer primary-is-allowed.Learnt
+  pub of-primary-fresh : OneAnswer primary-fresh.Learnt × OneContent primary-fresh.Learnt (λ κs exit. held-1 (exit .1 .1))
   pub of-primary-step : OneAnswer primary-step.Learnt × OneContent primary-step.Learnt (λ κs exit. held-2 (exit .1 .1))
   pub of-primary-request : OneAnswer requested × OneContent requested (λ κs exit. held-2 (exit .1 .1))
   -- acceptor_rule
@@ -196,6 +207,7 @@ pub record EveryCall : Type 0 where
   pub of-obey : OneAnswer obey.Learnt
   -- acceptor_tables
   pub of-acceptor-is-allowed : OneAnswer acceptor-is-allowed.Learnt
+  pub of-acceptor-fresh : OneAnswer acceptor-fresh.Learnt × OneContent acceptor-fresh.Learnt (λ κs exit. held-3 (exit .1 .1))
   -- acceptor
   pub of-acceptor-step : OneAnswer acceptor-step.Learnt × OneContent acceptor-step.Learnt (λ κs exit. held-4 (exit .1 .1 .1))
   -- backup_cell
@@ -208,6 +220,7 @@ pub record EveryCall : Type 0 where
   pub of-backup-is-allowed : OneAnswer backup-is-allowed.Learnt
   pub of-backup-cell-at : OneAnswer backup-cell-at.Learnt
   pub of-backup-store-cell : OneContent backup-store-cell.Learnt (λ κs exit. held-6 exit)
+  pub of-backup-fresh : OneAnswer backup-fresh.Learnt × OneContent backup-fresh.Learnt (λ κs exit. held-6 (exit .1 .1))
   -- backup
   pub of-backup-start : OneAnswer backup-start.Learnt × OneContent backup-start.Learnt (λ κs exit. held-7 (exit .1 .1 .1 .1 .1 .1 .1))
   pub of-backup-step : OneAnswer backup-step.Learnt × OneContent backup-step.Learnt (λ κs exit. held-7 (exit .1 .1 .1))
@@ -224,6 +237,7 @@ pub record EveryCall : Type 0 where
   pub of-learner-cell-at : OneAnswer learner-cell-at.Learnt
   pub of-learner-store-cell : OneContent learner-store-cell.Learnt (λ κs exit. held-3 exit)
   pub of-all-possible : OneAnswer all-possible.Learnt
+  pub of-learner-fresh : OneAnswer learner-fresh.Learnt × OneContent learner-fresh.Learnt (λ κs exit. held-3 (exit .1 .1))
   -- learner
   pub of-learner-step : OneAnswer learner-step.Learnt × OneContent learner-step.Learnt (λ κs exit. held-3 (exit .1 .1 .1))
   pub of-answer-for : OneAnswer answer-for.Learnt

@@ -1,22 +1,16 @@
--- `acceptor_tables::is_allowed` meets its contract: the code is the definition, with what `settings_allowed` ensures.
+-- `acceptor_tables::is_allowed` meets its contract: the code is the definition, with what `tables_allowed` ensures.
 -- Assumes nothing.
 use Rattle.acceptor_tables.specs.Tables.{isAllowed}
 use borrow.Author.Needs.{needs}
 use Rattle.acceptor_tables.proofs.is_allowed.Statement.{statement}
 use Rattle.acceptor_tables.proofs.is_allowed.Tie as tie
 
-cast-count : tie.Need-cast-count
-cast-count c = search needs
-
-settings-allowed-requires : tie.Need-settings-allowed-requires
-settings-allowed-requires c κs = search needs
-
-mul-result : tie.Need-mul-result
-mul-result c = search needs
+tables-allowed-requires : tie.Need-tables-allowed-requires
+tables-allowed-requires c κs = search needs
 
 returns : tie.Need-returns
 unfolding isAllowed
-returns c = rw (c .before .settings-allowed .ensures)
+returns c = rw (c .before .tables-allowed .ensures)
 
 pub is-allowed-spec : {M : Type 1} → statement M
-is-allowed-spec = tie.close (tie.spec cast-count settings-allowed-requires mul-result returns)
+is-allowed-spec = tie.close (tie.spec tables-allowed-requires returns)

@@ -1,26 +1,16 @@
--- `backup_tables::is_allowed` meets its contract: the code is the definition, with what `settings_allowed` ensures.
+-- `backup_tables::is_allowed` meets its contract: the code is the definition, with what `tables_allowed` ensures.
 -- Assumes nothing.
 use Rattle.backup_tables.specs.Tables.{isAllowed}
 use borrow.Author.Needs.{needs}
 use Rattle.backup_tables.proofs.is_allowed.Statement.{statement}
 use Rattle.backup_tables.proofs.is_allowed.Tie as tie
 
-cast-count : tie.Need-cast-count
-cast-count c = search needs
-
-settings-allowed-requires : tie.Need-settings-allowed-requires
-settings-allowed-requires c κs = search needs
-
-mul-result : tie.Need-mul-result
-mul-result c = search needs
-
-mul-result-2 : tie.Need-mul-result-2
-mul-result-2 c = search needs
+tables-allowed-requires : tie.Need-tables-allowed-requires
+tables-allowed-requires c κs = search needs
 
 returns : tie.Need-returns
 unfolding isAllowed
-returns c = rw (c .settings-allowed .ensures)
+returns c = rw (c .tables-allowed .ensures)
 
 pub is-allowed-spec : {M : Type 1} → statement M
-is-allowed-spec =
-    tie.close (tie.spec cast-count settings-allowed-requires mul-result mul-result-2 returns)
+is-allowed-spec = tie.close (tie.spec tables-allowed-requires returns)
