@@ -353,24 +353,14 @@ fn print_verdict(answer: u32) {
     io::write_all(STDOUT_FILENO, b" ");
 }
 
-fn hex_digit(number: u8) -> u8 {
-    if number < 10 {
-        return b'0' + number;
-    }
-    if 15 < number {
-        return b'?';
-    }
-    b'a' + (number - 10)
-}
-
+// 72 hex digits, by the numbers of 16 and, at the end, 8 digits that the bytes are.
 fn print_packet(packet: &[u8; 36]) {
-    let mut text = [10u8; 73];
-    for index in 0..36usize {
-        let byte = packet[index];
-        text[2 * index] = hex_digit(byte / 16);
-        text[2 * index + 1] = hex_digit(byte % 16);
-    }
-    io::write_all(STDOUT_FILENO, &text);
+    io::print_hex(STDOUT_FILENO, numbers::read_u64(packet, 0), 16);
+    io::print_hex(STDOUT_FILENO, numbers::read_u64(packet, 8), 16);
+    io::print_hex(STDOUT_FILENO, numbers::read_u64(packet, 16), 16);
+    io::print_hex(STDOUT_FILENO, numbers::read_u64(packet, 24), 16);
+    io::print_hex(STDOUT_FILENO, numbers::read_u32(packet, 32) as u64, 8);
+    io::write_all(STDOUT_FILENO, b"\n");
 }
 
 fn print_line(command: Command, answer: u32, packet: &[u8; 36]) {
