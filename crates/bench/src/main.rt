@@ -4,6 +4,7 @@ ghost use mathlib.Core.Path.{_≡_};
 ghost use Rattle.bench.specs.Bench.{freshVoteRounds};
 use basics::Value;
 use basics::Verdict;
+use bench_lines::Command;
 use libc::STDIN_FILENO;
 use libc::STDOUT_FILENO;
 
@@ -26,27 +27,6 @@ enum Next {
     // A line's length, 128 where it is longer than any good line, and the input after it.
     Line(usize, Input),
     End,
-}
-
-// A decimal number and the place after it.
-enum Decimal {
-    Number(u32, usize),
-    Bad,
-}
-
-// What a line asks for. The bytes of a packet stand in the buffer that was lent with the line.
-enum Command {
-    Primary,
-    Acceptor(u32),
-    Backup(u32),
-    Learner,
-    Start {
-        own: u32,
-        instance: u32,
-        floor: u32,
-        value: Value,
-    },
-    Bad,
 }
 
 enum Asked {
@@ -130,165 +110,12 @@ fn next_line(start: Input, chunk: &mut [u8; 4096], line: &mut [u8; 128]) -> Next
 
 // ---- what a line says
 
-fn line_byte(line: &[u8], at: usize) -> u8 {
-    if at < line.len() { line[at] } else { 0 }
-}
-
-// A hex digit's number, of either case; 16 for any other byte.
-fn digit(byte: u8) -> u8 {
-    if byte < b'0' {
-        return 16;
-    }
-    if byte <= b'9' {
-        return byte - b'0';
-    }
-    if byte < b'A' {
-        return 16;
-    }
-    if byte <= b'F' {
-        return byte - b'A' + 10;
-    }
-    if byte < b'a' {
-        return 16;
-    }
-    if byte <= b'f' {
-        return byte - b'a' + 10;
-    }
-    16
-}
-
-// The bytes that the rest of the line stands for, two hex digits each.
-fn take_hex(line: &[u8], from: usize, bytes: &mut [u8]) -> bool {
-    let mut place = from;
-    for index in 0..bytes.len() {
-        if line.len() < 2 {
-            return false;
-        }
-        if line.len() - 2 < place {
-            return false;
-        }
-        let high = digit(line_byte(line, place));
-        let low = digit(line_byte(line, place + 1));
-        if 16 <= high {
-            return false;
-        }
-        if 16 <= low {
-            return false;
-        }
-        bytes[index] = high * 16 + low;
-        place += 2;
-    }
-    place == line.len()
-}
-
-// One to ten decimal digits, at most 4,294,967,295, and then a space.
-fn take_decimal(line: &[u8], from: usize) -> Decimal {
-    let mut number: u64 = 0;
-    let mut place = from;
-    for digits in 0..11usize {
-        if line.len() <= place {
-            return Decimal::Bad;
-        }
-        if 4294967295 < number {
-            return Decimal::Bad;
-        }
-        let byte = line_byte(line, place);
-        place += 1;
-        if byte == b' ' {
-            return decimal_of(number, digits, place);
-        }
-        let value = digit(byte);
-        if 10 <= value {
-            return Decimal::Bad;
-        }
-        number = number * 10 + (value as u64);
-    }
-    Decimal::Bad
-}
-
-fn decimal_of(number: u64, digits: usize, after: usize) -> Decimal {
-    if digits == 0 {
-        return Decimal::Bad;
-    }
-    if 4294967295 < number {
-        return Decimal::Bad;
-    }
-    Decimal::Number(number as u32, after)
-}
-
-// `s1 INST FLOOR VALUE`
-fn start_of(line: &[u8], own: u32) -> Command {
-    if (own < 1) | (3 < own) | (line_byte(line, 2) != b' ') {
-        return Command::Bad;
-    }
-    let Decimal::Number(instance, floor_place) = take_decimal(line, 3) else {
-        return Command::Bad;
-    };
-    let Decimal::Number(floor, value_place) = take_decimal(line, floor_place) else {
-        return Command::Bad;
-    };
-    let mut bytes = [0u8; 16];
-    if !take_hex(line, value_place, &mut bytes) {
-        return Command::Bad;
-    }
-    let high = numbers::read_u64(&bytes, 0);
-    let low = numbers::read_u64(&bytes, 8);
-    Command::Start {
-        own,
-        instance,
-        floor,
-        value: Value { high, low },
-    }
-}
-
-fn player_of(letter: u8, number: u32) -> Command {
-    if letter == b'p' {
-        return Command::Primary;
-    }
-    if letter == b'l' {
-        return Command::Learner;
-    }
-    if (letter == b'a') & (number <= 2) {
-        return Command::Acceptor(number);
-    }
-    if (letter == b'b') & (1 <= number) & (number <= 3) {
-        return Command::Backup(number);
-    }
-    Command::Bad
-}
-
-// A space, and 72 hex digits.
-fn take_packet(line: &[u8], space: usize, from: usize, packet: &mut [u8]) -> bool {
-    if line_byte(line, space) != b' ' {
-        return false;
-    }
-    take_hex(line, from, packet)
-}
-
-// A player, a space, 72 hex digits; or a start.
-fn command_of(line: &[u8], packet: &mut [u8]) -> Command {
-    let letter = line_byte(line, 0);
-    let number = digit(line_byte(line, 1)) as u32;
-    if letter == b's' {
-        return start_of(line, number);
-    }
-    if (letter == b'p') | (letter == b'l') {
-        if !take_packet(line, 1, 2, packet) {
-            return Command::Bad;
-        }
-        return player_of(letter, number);
-    }
-    if !take_packet(line, 2, 3, packet) {
-        return Command::Bad;
-    }
-    player_of(letter, number)
-}
-
-fn command_in(line: &[u8], length: usize, packet: &mut [u8]) -> Command {
+// No more than 128 bytes of a line are kept, and no line of more than 75 is a command.
+fn command_in(line: &[u8], length: usize, packet: &mut [u8; 36]) -> Command {
     if line.len() < length {
         return Command::Bad;
     }
-    command_of(&line[..length], packet)
+    bench_lines::command_of(&line[..length], packet)
 }
 
 // What the input's next line asks for, and the input after it.

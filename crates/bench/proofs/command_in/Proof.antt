@@ -11,13 +11,10 @@ returns : tie.Need-returns
 returns c = search needs
 
 slice-aggregate-command-of : tie.Need-slice-aggregate-command-of
-slice-aggregate-command-of c = sym (length-take-le (c .before .before .before .before .args .length) (now (c .before .before .before .before .args .line)) (c .before .if1 .left))
+slice-aggregate-command-of c = sym (length-take-le (c .before .before .before .args .length) (now (c .before .before .before .args .line)) (c .before .if1 .left))
 
 command-of-requires : tie.Need-command-of-requires
 command-of-requires c κs = search needs
-
-same-length : tie.Need-same-length
-same-length c = search needs
 
 returns-2 : tie.Need-returns-2
 returns-2 c = search needs
@@ -25,4 +22,4 @@ returns-2 c = search needs
 pub command-in-spec : {M : Type 1} → statement M
 command-in-spec =
     tie.close
-    (tie.spec returns slice-aggregate-command-of command-of-requires same-length returns-2)
+    (tie.spec returns slice-aggregate-command-of command-of-requires returns-2)
