@@ -24,12 +24,15 @@ pub fn put_round(rounds: &mut [u32], index: usize, round: Round)
     }
 }
 
-// One round in every cell, whatever the column holds.
+// One round in every cell, whatever the column holds. A cell that holds it is not written: of a loop that writes every cell the compiler makes a call of
+// memset, and the archives call nothing.
 pub fn fill_rounds(rounds: &mut [u32], round: Round)
     ensures { λ r. ⌜ now (rounds .exit) ≡ replicate (length (now (rounds .entry))) (round .0) ⌝ }
 {
     for place in 0..rounds.len() {
-        rounds[place] = round.0;
+        if rounds[place] != round.0 {
+            rounds[place] = round.0;
+        }
     }
 }
 
@@ -56,7 +59,9 @@ pub fn fill_bytes(bytes: &mut [u8], byte: u8)
     ensures { λ r. ⌜ now (bytes .exit) ≡ replicate (length (now (bytes .entry))) byte ⌝ }
 {
     for place in 0..bytes.len() {
-        bytes[place] = byte;
+        if bytes[place] != byte {
+            bytes[place] = byte;
+        }
     }
 }
 
@@ -119,6 +124,8 @@ pub fn fill_halves(values: &mut [u64], number: u64)
     ensures { λ r. ⌜ now (values .exit) ≡ replicate (length (now (values .entry))) number ⌝ }
 {
     for place in 0..values.len() {
-        values[place] = number;
+        if values[place] != number {
+            values[place] = number;
+        }
     }
 }
