@@ -13,6 +13,7 @@ use Rattle.wire.specs.Packet.{fieldsIn, readPacket, packetWith, packetOf}
 use Rattle.player.specs.Step.{afterReading, afterPlacing, ruled, ruleAt, act, step}
 use Rattle.quorum.specs.Settings.{acceptorsAllowed, instancesAllowed, allowed}
 use Rattle.quorum.specs.Quorum.{majority, bit, hasMember, withMember, within, reaches}
+use Rattle.columns.specs.Fresh.{setFresh}
 use Rattle.columns.specs.Walks.{cellsFrom, every}
 use Rattle.primary_rule.specs.Rule as primaryRule
 use Rattle.primary.specs.Primary as primary
@@ -38,7 +39,7 @@ use Rattle.cases.specs.WrittenOut.{WrittenOut}
 computed : WrittenOut × Orders × All cases
 unfolding ones numberAt if_then_else_ need_or_then_ ownerOf ownedOr0 ownedNot0 rank atMost isVoteUpTo placed requestRow prepareRow promiseRow proposeRow voteRow tableRow
     keepsTable messageOf fieldsOf whenRequest whenPrepare whenPromise whenPropose whenVote fieldsIn readPacket packetWith packetOf afterReading afterPlacing ruled ruleAt act step
-    acceptorsAllowed instancesAllowed allowed majority bit hasMember withMember within reaches cellsFrom every
+    acceptorsAllowed instancesAllowed allowed majority bit hasMember withMember within reaches cellsFrom every setFresh primary.primaryFresh acceptorTables.acceptorFresh backupTables.backupFresh learnerTables.learnerFresh
     primaryRule.possible primaryRule.takeRequest primary.isAllowed primary.primary primary.primaryStep primary.primaryByReference primary.primaryRequest
     acceptorRule.possible acceptorRule.orderOf acceptorRule.obeying acceptorRule.obey acceptorTables.tablesAllowed acceptorTables.isAllowed acceptor.acceptor acceptor.acceptorStep
     backupCell.isFresh backupCell.phaseFits backupCell.isStarted backupCell.possible backupRule.nextRound backupRule.start backupRule.counting backupRule.chosen
@@ -49,9 +50,14 @@ unfolding ones numberAt if_then_else_ need_or_then_ ownerOf ownedOr0 ownedNot0 r
     cellBytes cellIn cellsBytes roundsOf setsOf valuesOf savedTable save readSaved
 computed = (
   record {
+    primary-fresh = refl;
     acceptor-fresh = refl;
     backup-fresh = refl;
     learner-fresh = refl;
+    primary-not-fresh = refl;
+    acceptor-not-fresh = refl;
+    backup-not-fresh = refl;
+    learner-not-fresh = refl;
     request-proposed = refl;
     start-prepares = refl;
     prepare-promised = refl;

@@ -11,12 +11,15 @@ use Rattle.basics.specs.Values.{theValue}
 use Rattle.basics.specs.Outcome.{outcome, lent}
 use Rattle.player.specs.Step.{unchanged}
 use Rattle.quorum.specs.Settings.{settings}
-use Rattle.primary.specs.Primary.{primaryStep}
+use Rattle.primary.specs.Primary.{primaryFresh, primaryStep}
 use Rattle.acceptor_tables.specs.Tables as acceptors
+use Rattle.acceptor_tables.specs.Tables.{acceptorFresh}
 use Rattle.acceptor.specs.Acceptor.{acceptorStep}
 use Rattle.backup_tables.specs.Tables as backups
+use Rattle.backup_tables.specs.Tables.{backupFresh}
 use Rattle.backup.specs.Backup.{backupStep, backupStart}
 use Rattle.learner_tables.specs.Tables as learners
+use Rattle.learner_tables.specs.Tables.{learnerFresh}
 use Rattle.learner.specs.Learner.{learnerStep, answerFor, answered}
 use Rattle.learner_holes.specs.Holes as holes
 use Rattle.learner_saved.specs.Saved.{save, readSaved}
@@ -129,10 +132,15 @@ saved =
 -- ---- the rows
 
 pub record WrittenOut : Type 0 where
-  -- fresh tables
-  pub acceptor-fresh : acceptors.freshTables 2 ≡ neverVoted
-  pub backup-fresh : backups.freshTables 2 ≡ idle
-  pub learner-fresh : learners.freshTables 2 ≡ unheard
+  -- tables set fresh, whatever they held; 7 where M is 4, N is 1 of tables for 2, or the record has two numbers
+  pub primary-fresh : primaryFresh (settings 3 2) (2 ∷ []) ≡ outcome 106 (0 ∷ [])
+  pub acceptor-fresh : acceptorFresh (settings 3 2) voted ≡ outcome 106 neverVoted
+  pub backup-fresh : backupFresh (settings 3 2) proposed ≡ outcome 106 idle
+  pub learner-fresh : learnerFresh (settings 3 2) decided ≡ outcome 106 unheard
+  pub primary-not-fresh : primaryFresh (settings 3 2) (2 ∷ 3 ∷ []) ≡ outcome 7 (2 ∷ 3 ∷ [])
+  pub acceptor-not-fresh : acceptorFresh (settings 4 2) voted ≡ outcome 7 voted
+  pub backup-not-fresh : backupFresh (settings 3 1) proposed ≡ outcome 7 proposed
+  pub learner-not-fresh : learnerFresh (settings 3 1) decided ≡ outcome 7 decided
   -- 101 to acceptors, 102 to leader, 103 to learners, 104 hold, 105 decided, 106 done, 107 not yet, 108 no hole
   pub request-proposed : primaryStep (settings 3 2) request (1 ∷ []) ≡ outcome 101 (lent proposeOfPrimary (2 ∷ []))
   pub start-prepares :
