@@ -39,7 +39,8 @@ use Rattle.cases.specs.WrittenOut.{WrittenOut}
 computed : WrittenOut × Orders × All cases
 unfolding ones numberAt if_then_else_ need_or_then_ ownerOf ownedOr0 ownedNot0 rank atMost isVoteUpTo placed requestRow prepareRow promiseRow proposeRow voteRow tableRow
     keepsTable messageOf fieldsOf whenRequest whenPrepare whenPromise whenPropose whenVote fieldsIn readPacket packetWith packetOf afterReading afterPlacing ruled ruleAt act step
-    acceptorsAllowed instancesAllowed allowed majority bit hasMember withMember within reaches cellsFrom every setFresh primary.primaryFresh acceptorTables.acceptorFresh backupTables.backupFresh learnerTables.learnerFresh
+    acceptorsAllowed instancesAllowed allowed majority bit hasMember withMember within reaches cellsFrom every
+    setFresh primary.primaryFresh acceptorTables.acceptorFresh backupTables.backupFresh learnerTables.learnerFresh
     primaryRule.possible primaryRule.takeRequest primary.isAllowed primary.primary primary.primaryStep primary.primaryByReference primary.primaryRequest
     acceptorRule.possible acceptorRule.orderOf acceptorRule.obeying acceptorRule.obey acceptorTables.tablesAllowed acceptorTables.isAllowed acceptor.acceptor acceptor.acceptorStep
     backupCell.isFresh backupCell.phaseFits backupCell.isStarted backupCell.possible backupRule.nextRound backupRule.start backupRule.counting backupRule.chosen
