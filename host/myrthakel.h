@@ -9,8 +9,9 @@
  *
  * For agreement it owes more, and no call can check that either:
  * - all calls have the same settings; each acceptor's number, 0 to M - 1, and each backup's, 1 to 3, is given to one box, and there is one primary;
- * - all tables begin fresh, and from then on nothing but their own player's calls writes them. None is reset or restored, not after a restart either: an
- *   acceptor would forget its promises and votes, a primary would use instances again, a backup rounds, and a learner would take back what it said;
+ * - all tables begin fresh (the calls that set them so are the first below), and from then on nothing but their own player's steps and starts writes them. None
+ *   is reset or restored, not after a restart either: an acceptor would forget its promises and votes, a primary would use instances again, a backup
+ *   rounds, and a learner would take back what it said;
  * - what is handed over is a request, a malformed packet, or a copy of a packet that a call said to send: lost, doubled or late, but not changed.
  * Nothing is claimed of a run in which a saved table was read back.
  *
@@ -68,6 +69,42 @@ enum {
     MYRTHAKEL_NO_ROUND_LEFT = 16,
     MYRTHAKEL_IMPOSSIBLE_CELL = 17
 };
+
+/*
+ * Fresh tables, one call for each player, for the beginning of a run only: in mid-run, and after a restart, it would be a table reset. Done, whatever the
+ * columns held; 7 where the settings are not allowed or a column is not as long as N asks for, and then nothing is written.
+ *
+ * The primary's record: one number (0), which may be that of the struct below.
+ */
+uint32_t myrthakel_primary_fresh(uint32_t acceptors, uint32_t instances,
+                                 uint32_t *next, size_t next_length);
+
+/*
+ * An acceptor's tables: N rounds (0), N vote rounds (none) and 2N numbers of values (0).
+ */
+uint32_t myrthakel_acceptor_fresh(uint32_t acceptors, uint32_t instances,
+                                  uint32_t *rounds, size_t rounds_length,
+                                  uint32_t *vote_rounds, size_t vote_rounds_length,
+                                  uint64_t *values, size_t values_length);
+
+/*
+ * A backup's tables: N rounds (0), N phases (0), N sets (0), N best vote rounds (none), 2N numbers of best values and 2N of own values (0).
+ */
+uint32_t myrthakel_backup_fresh(uint32_t acceptors, uint32_t instances,
+                                uint32_t *rounds, size_t rounds_length,
+                                uint8_t *phases, size_t phases_length,
+                                uint8_t *sets, size_t sets_length,
+                                uint32_t *best_vote_rounds, size_t best_vote_rounds_length,
+                                uint64_t *best_values, size_t best_values_length,
+                                uint64_t *own_values, size_t own_values_length);
+
+/*
+ * A learner's tables: N rounds (none), N sets of voters (0) and 2N numbers of values (0).
+ */
+uint32_t myrthakel_learner_fresh(uint32_t acceptors, uint32_t instances,
+                                 uint32_t *rounds, size_t rounds_length,
+                                 uint8_t *sets, size_t sets_length,
+                                 uint64_t *values, size_t values_length);
 
 /*
  * The primary. Reads a request from the packet and writes a propose over it, for the acceptors. The record is a slice of one number, the next

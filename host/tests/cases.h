@@ -50,6 +50,12 @@ static inline int is_packet(const uint8_t *packet, uint8_t type, uint32_t number
     return memcmp(packet, wanted, sizeof wanted) == 0;
 }
 
+/* The answer of a call that sets tables fresh. A test that wants others fills them behind it. */
+static inline void fresh(uint32_t answer)
+{
+    expect(answer == MYRTHAKEL_DONE, "tables set fresh");
+}
+
 static inline int told(void)
 {
     printf("%d passed, %d failed\n", passed, failed);

@@ -9,9 +9,8 @@ typedef struct {
 
 static void make_unheard(learner *l)
 {
-    memset(l, 0, sizeof *l);
-    for (int i = 0; i < N; i++)
-        l->rounds[i] = MYRTHAKEL_NONE;
+    memset(l, 0xee, sizeof *l);
+    fresh(myrthakel_learner_fresh(M, N, l->rounds, N, l->sets, N, l->values, 2 * N));
 }
 
 static uint32_t vote(learner *l, uint32_t acceptors, uint32_t sender, uint32_t instance, uint32_t round, uint8_t last)

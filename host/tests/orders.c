@@ -99,8 +99,15 @@ static uint32_t by_reference(uint32_t next, uint32_t acceptors, buffer p)
     return record.next == next ? unless_changed(answer, p.bytes, lent.bytes, sizeof p.bytes) : 0;
 }
 
-static uint32_t fresh_by_slice(uint32_t acceptors, buffer p) { return by_slice(0, acceptors, p); }
-static uint32_t fresh_by_reference(uint32_t acceptors, buffer p) { return by_reference(0, acceptors, p); }
+static uint32_t fresh_next(void)
+{
+    uint32_t next = 99;
+    fresh(myrthakel_primary_fresh(M, N, &next, 1));
+    return next;
+}
+
+static uint32_t fresh_by_slice(uint32_t acceptors, buffer p) { return by_slice(fresh_next(), acceptors, p); }
+static uint32_t fresh_by_reference(uint32_t acceptors, buffer p) { return by_reference(fresh_next(), acceptors, p); }
 
 static void primary_order(primary_call *give, step *give_fresh)
 {
@@ -119,8 +126,10 @@ static uint32_t acceptor(uint32_t round, uint32_t vote_round, uint32_t acceptors
         buffer packet;
         uint32_t rounds[N], vote_rounds[N];
         uint64_t values[2 * N];
-    } before = {0}, lent;
+    } before, lent;
+    memset(&before, 0xee, sizeof before);
     before.packet = p;
+    fresh(myrthakel_acceptor_fresh(M, N, before.rounds, N, before.vote_rounds, N, before.values, 2 * N));
     for (int i = 0; i < N; i++) {
         before.rounds[i] = round;
         before.vote_rounds[i] = vote_round;
@@ -154,13 +163,13 @@ typedef struct {
 
 static void lend_to_backup(lent_to_backup *b, buffer p, uint8_t phase, uint8_t set)
 {
-    memset(b, 0, sizeof *b);
+    memset(b, 0xee, sizeof *b);
     b->packet = p;
+    fresh(myrthakel_backup_fresh(M, N, b->rounds, N, b->phases, N, b->sets, N, b->best_vote_rounds, N, b->best_values, 2 * N, b->own_values, 2 * N));
     for (int i = 0; i < N; i++) {
         b->rounds[i] = 1;
         b->phases[i] = phase;
         b->sets[i] = set;
-        b->best_vote_rounds[i] = MYRTHAKEL_NONE;
     }
 }
 
@@ -232,8 +241,9 @@ typedef struct {
 
 static void lend_to_learner(lent_to_learner *l, buffer bytes, uint8_t set)
 {
-    memset(l, 0, sizeof *l);
+    memset(l, 0xee, sizeof *l);
     l->bytes = bytes;
+    fresh(myrthakel_learner_fresh(M, N, l->rounds, N, l->sets, N, l->values, 2 * N));
     for (int i = 0; i < N; i++) {
         l->rounds[i] = 5;
         l->sets[i] = set;

@@ -8,9 +8,8 @@ typedef struct {
 
 static void make_fresh(acceptor *a)
 {
-    memset(a, 0, sizeof *a);
-    for (int i = 0; i < N; i++)
-        a->vote_rounds[i] = MYRTHAKEL_NONE;
+    memset(a, 0xee, sizeof *a);
+    fresh(myrthakel_acceptor_fresh(M, N, a->rounds, N, a->vote_rounds, N, a->values, 2 * N));
 }
 
 static uint32_t acceptor_step(acceptor *a, uint8_t *packet, size_t length)
@@ -67,7 +66,8 @@ static void acceptor_cases(void)
 static void primary_cases(void)
 {
     uint8_t packet[MYRTHAKEL_PACKET_LENGTH];
-    uint32_t next = 0;
+    uint32_t next = 99;
+    fresh(myrthakel_primary_fresh(M, N, &next, 1));
     make(packet, 0, 9, 0, 0, MYRTHAKEL_NONE, 0x2a);
     expect(myrthakel_primary_step(M, N, packet, 36, &next, 1) == MYRTHAKEL_TO_ACCEPTORS, "a request becomes a propose");
     expect(is_packet(packet, 3, 0, 0, 0, MYRTHAKEL_NONE, 0x2a), "with instance 0, round 0, switch number 0 and its value");
@@ -76,20 +76,20 @@ static void primary_cases(void)
     expect(is_packet(packet, 3, 0, 1, 0, MYRTHAKEL_NONE, 0x2a) && next == 2, "and gets a second instance");
     expect(myrthakel_primary_step(M, N, packet, 36, &next, 1) == MYRTHAKEL_WRONG_KIND, "a propose is refused");
 
-    next = 0;
+    fresh(myrthakel_primary_fresh(M, N, &next, 1));
     make(packet, 0, 9, 0, 0, MYRTHAKEL_NONE, 0x2a);
     expect(myrthakel_primary_step(M, 1, packet, 36, &next, 1) == MYRTHAKEL_TO_ACCEPTORS, "N = 1: the first request is taken");
     make(packet, 0, 9, 0, 0, MYRTHAKEL_NONE, 0x2a);
     expect(myrthakel_primary_step(M, 1, packet, 36, &next, 1) == MYRTHAKEL_NO_INSTANCE_LEFT && next == 1, "N = 1: the second is refused");
     next = 2;
     expect(myrthakel_primary_step(M, 1, packet, 36, &next, 1) == MYRTHAKEL_IMPOSSIBLE_CELL && next == 2, "next above N is impossible");
-    next = 0;
+    fresh(myrthakel_primary_fresh(M, N, &next, 1));
     expect(myrthakel_primary_step(2, N, packet, 36, &next, 1) == MYRTHAKEL_NOT_ALLOWED, "M = 2 is refused");
     expect(myrthakel_primary_step(M, 0, packet, 36, &next, 1) == MYRTHAKEL_NOT_ALLOWED, "N = 0 is refused");
     expect(myrthakel_primary_step(M, 1025, packet, 36, &next, 1) == MYRTHAKEL_NOT_ALLOWED, "N = 1,025 is refused");
     expect(myrthakel_primary_step(M, N, packet, 36, &next, 0) == MYRTHAKEL_NOT_ALLOWED, "a record of no number is refused");
     expect(myrthakel_primary_step(M, 1024, packet, 36, &next, 1) == MYRTHAKEL_TO_ACCEPTORS && next == 1, "N = 1,024 is allowed");
-    next = 0;
+    fresh(myrthakel_primary_fresh(M, N, &next, 1));
     make(packet, 0, 9, 0, 0, MYRTHAKEL_NONE, 0);
     expect(myrthakel_primary_step(M, N, packet, 36, &next, 1) == MYRTHAKEL_BROKEN_FIELD && next == 0, "a null request is refused");
 }
@@ -97,7 +97,8 @@ static void primary_cases(void)
 static void request_cases(void)
 {
     uint8_t packet[MYRTHAKEL_PACKET_LENGTH + 1] = {0}, before[MYRTHAKEL_PACKET_LENGTH];
-    struct myrthakel_primary primary = {0};
+    struct myrthakel_primary primary = {99};
+    fresh(myrthakel_primary_fresh(M, N, &primary.next, 1));
     make(packet, 0, 9, 0, 0, MYRTHAKEL_NONE, 0x2a);
     expect(myrthakel_primary_request(M, N, packet, 36, &primary) == MYRTHAKEL_TO_ACCEPTORS, "by reference: a request becomes a propose");
     expect(is_packet(packet, 3, 0, 0, 0, MYRTHAKEL_NONE, 0x2a), "by reference: with instance 0, round 0, switch number 0 and its value");
@@ -108,7 +109,7 @@ static void request_cases(void)
     expect(myrthakel_primary_request(M, N, packet, 36, &primary) == MYRTHAKEL_WRONG_KIND, "by reference: a propose is refused");
     expect(memcmp(packet, before, sizeof before) == 0 && primary.next == 2, "by reference: the refusal changes nothing");
 
-    primary.next = 0;
+    fresh(myrthakel_primary_fresh(M, N, &primary.next, 1));
     make(packet, 0, 9, 0, 0, MYRTHAKEL_NONE, 0x2a);
     expect(myrthakel_primary_request(M, 1, packet, 36, &primary) == MYRTHAKEL_TO_ACCEPTORS, "by reference: N = 1: the first request is taken");
     make(packet, 0, 9, 0, 0, MYRTHAKEL_NONE, 0x2a);
@@ -116,7 +117,7 @@ static void request_cases(void)
     expect(myrthakel_primary_request(M, 1, packet, 36, &primary) == MYRTHAKEL_NO_INSTANCE_LEFT && primary.next == 1, "by reference: N = 1: the second is refused");
     primary.next = 2;
     expect(myrthakel_primary_request(M, 1, packet, 36, &primary) == MYRTHAKEL_IMPOSSIBLE_CELL && primary.next == 2, "by reference: next above N is impossible");
-    primary.next = 0;
+    fresh(myrthakel_primary_fresh(M, N, &primary.next, 1));
     expect(myrthakel_primary_request(2, N, packet, 36, &primary) == MYRTHAKEL_NOT_ALLOWED, "by reference: M = 2 is refused");
     expect(myrthakel_primary_request(M, 0, packet, 36, &primary) == MYRTHAKEL_NOT_ALLOWED, "by reference: N = 0 is refused");
     expect(myrthakel_primary_request(M, 1025, packet, 36, &primary) == MYRTHAKEL_NOT_ALLOWED, "by reference: N = 1,025 is refused");
@@ -124,7 +125,7 @@ static void request_cases(void)
     expect(myrthakel_primary_request(M, N, packet, 37, &primary) == MYRTHAKEL_WRONG_LENGTH, "by reference: 37 bytes are refused");
     expect(memcmp(packet, before, sizeof before) == 0 && primary.next == 0, "by reference: no refusal changes anything");
     expect(myrthakel_primary_request(M, 1024, packet, 36, &primary) == MYRTHAKEL_TO_ACCEPTORS && primary.next == 1, "by reference: N = 1,024 is allowed");
-    primary.next = 0;
+    fresh(myrthakel_primary_fresh(M, N, &primary.next, 1));
     make(packet, 0, 9, 0, 0, MYRTHAKEL_NONE, 0);
     expect(myrthakel_primary_request(M, N, packet, 36, &primary) == MYRTHAKEL_BROKEN_FIELD && primary.next == 0, "by reference: a null request is refused");
 }
@@ -137,9 +138,8 @@ typedef struct {
 
 static void make_idle(backup *b)
 {
-    memset(b, 0, sizeof *b);
-    for (int i = 0; i < N; i++)
-        b->best_vote_rounds[i] = MYRTHAKEL_NONE;
+    memset(b, 0xee, sizeof *b);
+    fresh(myrthakel_backup_fresh(M, N, b->rounds, N, b->phases, N, b->sets, N, b->best_vote_rounds, N, b->best_values, 2 * N, b->own_values, 2 * N));
 }
 
 static uint32_t start(backup *b, uint32_t own, uint32_t instance, uint32_t floor, uint64_t low, uint8_t *buffer, size_t length)

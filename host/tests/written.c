@@ -133,8 +133,28 @@ static void learner_cases(void)
     expect(myrthakel_learner_read_saved(3, 2, saved, 50, l.rounds, 2, l.sets, 2, l.values, 4) == 106 && is_learner(&l, &heard), "and these bytes are read as that table");
 }
 
+/* Tables are set fresh, whatever they held; 7 where M is 4, N is 1 of tables for 2, or the record has two numbers. */
+static void fresh_cases(void)
+{
+    uint32_t next[2] = {2, 3};
+    acceptor a = voted;
+    backup b = proposed;
+    learner l = decided;
+    expect(myrthakel_primary_fresh(3, 2, next, 2) == 7 && next[0] == 2 && next[1] == 3, "a record of two numbers is not set fresh");
+    expect(myrthakel_primary_fresh(3, 2, next, 1) == 106 && next[0] == 0 && next[1] == 3, "the record is set fresh");
+    expect(myrthakel_acceptor_fresh(4, 2, a.rounds, 2, a.vote_rounds, 2, a.values, 4) == 7 && memcmp(&a, &voted, sizeof a) == 0, "an acceptor of 4 is not set fresh");
+    expect(myrthakel_acceptor_fresh(3, 2, a.rounds, 2, a.vote_rounds, 2, a.values, 4) == 106 && memcmp(&a, &never_voted, sizeof a) == 0, "an acceptor is set fresh");
+    expect(myrthakel_backup_fresh(3, 1, b.rounds, 2, b.phases, 2, b.sets, 2, b.best_vote_rounds, 2, b.best_values, 4, b.own_values, 4) == 7 && is_backup(&b, &proposed),
+           "a backup with tables for 2 is not set fresh for 1");
+    expect(myrthakel_backup_fresh(3, 2, b.rounds, 2, b.phases, 2, b.sets, 2, b.best_vote_rounds, 2, b.best_values, 4, b.own_values, 4) == 106 && is_backup(&b, &idle),
+           "a backup is set fresh");
+    expect(myrthakel_learner_fresh(3, 1, l.rounds, 2, l.sets, 2, l.values, 4) == 7 && is_learner(&l, &decided), "a learner with tables for 2 is not set fresh for 1");
+    expect(myrthakel_learner_fresh(3, 2, l.rounds, 2, l.sets, 2, l.values, 4) == 106 && is_learner(&l, &unheard), "a learner is set fresh");
+}
+
 int main(void)
 {
+    fresh_cases();
     primary_is(request, 1, 101, propose_of_primary, 2, "a request is proposed");
     primary_is(null_request, 1, 5, null_request, 1, "a null request is refused by 5");
     acceptor_is(prepare, &never_voted, 102, promise_of_none, &promised, "a prepare is promised");
