@@ -104,11 +104,19 @@ static int next(const place *here, datagram *packet, command *order)
     }
 }
 
+/* Tables begin fresh, by the player's own call and this once. Where that is refused the process ends, and the operator misses it at the roll call. */
+static void begin(uint32_t answer)
+{
+    if (answer != MYRTHAKEL_DONE)
+        _exit(1);
+}
+
 static _Noreturn void play_primary(const place *here)
 {
-    uint32_t next_instance = 0;
+    uint32_t next_instance;
     datagram packet;
     command order;
+    begin(myrthakel_primary_fresh(ACCEPTORS, INSTANCES, &next_instance, 1));
     for (;;)
         if (!next(here, &packet, &order))
             carry_out(here, myrthakel_primary_step(ACCEPTORS, INSTANCES, packet.bytes, packet.length, &next_instance, 1), packet.bytes);
@@ -116,12 +124,11 @@ static _Noreturn void play_primary(const place *here)
 
 static _Noreturn void play_acceptor(const place *here, uint32_t own)
 {
-    uint32_t rounds[INSTANCES] = {0}, vote_rounds[INSTANCES];
-    uint64_t values[2 * INSTANCES] = {0};
+    uint32_t rounds[INSTANCES], vote_rounds[INSTANCES];
+    uint64_t values[2 * INSTANCES];
     datagram packet;
     command order;
-    for (int i = 0; i < INSTANCES; i++)
-        vote_rounds[i] = MYRTHAKEL_NONE;
+    begin(myrthakel_acceptor_fresh(ACCEPTORS, INSTANCES, rounds, INSTANCES, vote_rounds, INSTANCES, values, 2 * INSTANCES));
     for (;;)
         if (!next(here, &packet, &order))
             carry_out(here, myrthakel_acceptor_step(ACCEPTORS, INSTANCES, own, packet.bytes, packet.length, rounds, INSTANCES, vote_rounds, INSTANCES,
@@ -130,14 +137,14 @@ static _Noreturn void play_acceptor(const place *here, uint32_t own)
 
 static _Noreturn void play_backup(const place *here)
 {
-    uint32_t rounds[INSTANCES] = {0}, best_vote_rounds[INSTANCES];
-    uint8_t phases[INSTANCES] = {0}, sets[INSTANCES] = {0};
-    uint64_t best_values[2 * INSTANCES] = {0}, own_values[2 * INSTANCES] = {0};
+    uint32_t rounds[INSTANCES], best_vote_rounds[INSTANCES];
+    uint8_t phases[INSTANCES], sets[INSTANCES];
+    uint64_t best_values[2 * INSTANCES], own_values[2 * INSTANCES];
     uint8_t buffer[MYRTHAKEL_PACKET_LENGTH] = {0};
     datagram packet;
     command order;
-    for (int i = 0; i < INSTANCES; i++)
-        best_vote_rounds[i] = MYRTHAKEL_NONE;
+    begin(myrthakel_backup_fresh(ACCEPTORS, INSTANCES, rounds, INSTANCES, phases, INSTANCES, sets, INSTANCES, best_vote_rounds, INSTANCES,
+                                 best_values, 2 * INSTANCES, own_values, 2 * INSTANCES));
     for (;;)
         if (next(here, &packet, &order))
             carry_out(here, myrthakel_backup_start(ACCEPTORS, INSTANCES, BACKUP_NUMBER, order.instance, order.floor,
@@ -177,11 +184,10 @@ static void answer_question(const place *here, const learner_tables *tables)
 
 static _Noreturn void play_learner(const place *here)
 {
-    learner_tables tables = {0};
+    learner_tables tables;
     datagram packet;
     command order;
-    for (int i = 0; i < INSTANCES; i++)
-        tables.rounds[i] = MYRTHAKEL_NONE;
+    begin(myrthakel_learner_fresh(ACCEPTORS, INSTANCES, tables.rounds, INSTANCES, tables.sets, INSTANCES, tables.values, 2 * INSTANCES));
     for (;;)
         if (next(here, &packet, &order))
             answer_question(here, &tables);
