@@ -37,7 +37,7 @@ extern "C" {
 #define MYRTHAKEL_VALUE_LENGTH 16
 #define MYRTHAKEL_SAVED_LENGTH(instances) (8 + 21 * (size_t)(instances))
 
-/* Verdicts: what to do with the packet as the call left it. The last three are for calls without a packet: done; not decided yet; no hole. */
+/* Verdicts: what to do with the packet as the call left it. The last three are for calls that send nothing: done; not decided yet; no hole. */
 enum {
     MYRTHAKEL_TO_ACCEPTORS = 101,
     MYRTHAKEL_TO_LEADER = 102,
@@ -69,6 +69,31 @@ enum {
     MYRTHAKEL_NO_ROUND_LEFT = 16,
     MYRTHAKEL_IMPOSSIBLE_CELL = 17
 };
+
+/* Types of packets, in the paper's numbers. */
+enum {
+    MYRTHAKEL_REQUEST = 0,
+    MYRTHAKEL_PREPARE = 1,
+    MYRTHAKEL_PROMISE = 2,
+    MYRTHAKEL_PROPOSE = 3,
+    MYRTHAKEL_VOTE = 4
+};
+
+/*
+ * Packets. Writes one of these fields over the packet, whatever it holds: done. All fields are judged as they are given, those too that the type's row of
+ * the packet table fixes: 0 as a request's instance and round, its owner's number as the switch number of a prepare or a propose, none as the vote round of
+ * all three, null as a prepare's value, and a vote's own round as its vote round. Refusals: 1, 4, 5 (a switch number over 65535 too).
+ */
+uint32_t myrthakel_packet_write(uint32_t kind, uint32_t switch_number, uint32_t instance, uint32_t round, uint32_t vote_round,
+                                uint64_t value_high, uint64_t value_low,
+                                uint8_t *packet, size_t packet_length);
+
+/*
+ * Reads a packet's fields into the numbers lent: done. Only those of a packet that keeps the packet table are written over them. Refusals: 1 to 5.
+ */
+uint32_t myrthakel_packet_read(const uint8_t *packet, size_t packet_length,
+                               uint32_t *kind, uint32_t *switch_number, uint32_t *instance, uint32_t *round, uint32_t *vote_round,
+                               uint64_t *value_high, uint64_t *value_low);
 
 /*
  * Fresh tables, one call for each player, for the beginning of a run only: in mid-run, and after a restart, it would be a table reset. Done, whatever the

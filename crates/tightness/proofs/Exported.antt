@@ -5,6 +5,8 @@ use Rattle.tightness.specs.Exported.{ExportedCalls}
 
 pub exported-calls : ExportedCalls
 exported-calls = record {
+  of-packet-write = λ _ _ _ _ told. told;
+  of-packet-read = λ _ _ _ _ told. told;
   of-primary-fresh = λ _ _ _ _ told. told;
   of-acceptor-fresh = λ _ _ _ _ told. told;
   of-backup-fresh = λ _ _ _ _ told. told;

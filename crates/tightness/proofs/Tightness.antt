@@ -7,6 +7,7 @@ use mathlib.Core.List.{List}
 use lib.Dec.{eqb}
 use Rattle.basics.specs.Ladder.{if_then_else_}
 use Rattle.basics.specs.Verdict.{verdictNumber}
+use Rattle.messages.specs.declared.Fields.{Fields}
 use Rattle.player.specs.Step.{Ruling, refused, sends, counts}
 use Rattle.primary_rule.specs.declared.Cell as primaryCells
 use Rattle.primary_rule.specs.declared.Ruled as primaryAnswers
@@ -87,6 +88,10 @@ vote-ruled (learners.Refused number) = refl
 abbrev backupColumns : Tables → List ℕ × List ℕ × List ℕ × List ℕ × List ℕ × List ℕ
 backupColumns t = (t .rounds, t .phases, t .sets, t .bestVoteRounds, t .bestValues, t .ownValues)
 
+-- a packet's seven fields
+abbrev fieldNumbers : Fields → ℕ × (ℕ × ℕ × ℕ × ℕ × ℕ × ℕ)
+fieldNumbers f = (f .kind, (f .switch, f .instance .0, f .round .0, f .«vote_round» .0, f .value .high, f .value .low))
+
 pub every-call : EveryCall
 every-call = record {
   of-read-u16 = λ _ _ _ _ _ _. equal;
@@ -113,7 +118,10 @@ every-call = record {
   of-read-packet = λ _ _ _ _ _ _. equal;
   of-refusal = λ _ _ _ _ _ _. equal;
   of-put-message = λ _ _ _ _ _ _. equal;
+  of-write-fields = (λ _ _ _ _ _ _. seen (λ o. o .answer), λ _ _ _ _ _ _. seen (λ o. o .left));
   of-write-packet = (λ _ _ _ _ _ _. seen (λ o. o .answer), λ _ _ _ _ _ _. seen (λ o. o .left));
+  of-packet-write = (λ _ _ _ _ _ _. seen (λ o. o .answer), λ _ _ _ _ _ _. seen (λ o. o .left));
+  of-packet-read = (λ _ _ _ _ _ _. seen (λ o. o .answer), λ _ _ _ _ _ _. seen (λ o. fieldNumbers (o .left)));
   of-settings-allowed = λ _ _ _ _ _ _. equal;
   of-majority = λ _ _ _ _ _ _. equal;
   of-has-member = λ _ _ _ _ _ _. equal;

@@ -17,6 +17,9 @@ use Rattle.basics.specs.Outcome.{outcome, lent}
 use Rattle.basics.specs.Rounds.{theInstance}
 use Rattle.basics.specs.Values.{theValue}
 use Rattle.quorum.specs.Settings.{settings}
+use Rattle.packets.specs.Packets.{numbered, packetWrite, packetRead}
+use Rattle.packets.proofs.myrthakel_packet_write.Reads as packet-write
+use Rattle.packets.proofs.myrthakel_packet_read.Reads as packet-read
 use Rattle.primary.specs.Primary.{primaryFresh, primaryStep}
 use Rattle.primary.proofs.myrthakel_primary_fresh.Reads as primary-fresh
 use Rattle.primary.proofs.myrthakel_primary_step.Reads as primary-step
@@ -56,6 +59,16 @@ Does {Lifetimes} {Entry} {Answer} {Exit} promise equation =
     (κs : Lifetimes) (entry : Entry κs) (answer : Answer κs) (exit : Exit κs) → promise κs entry answer exit → equation κs entry answer exit
 
 pub record ExportedCalls : Type 2 where
+  -- Runs have no host that writes or reads packets by call: what is promised of that stands in packets.
+  pub of-packet-write : Does packet-write.Learnt
+      λ _ (kind, (switch, (instance, (round, (voteRound, (high, (low, (packet, _)))))))) answer (_, (_, (_, (_, (_, (_, (_, (packet′, _)))))))).
+      outcome answer (now packet′)
+      ≡ packetWrite (numbered kind switch instance round voteRound high low) (now packet)
+  pub of-packet-read : Does packet-read.Learnt
+      λ _ (packet, (kind, (switch, (instance, (round, (voteRound, (high, (low, _))))))))
+      answer (_, (kind′, (switch′, (instance′, (round′, (voteRound′, (high′, (low′, _)))))))).
+      outcome answer (numbered (now kind′) (now switch′) (now instance′) (now round′) (now voteRound′) (now high′) (now low′))
+      ≡ packetRead (now packet) (numbered (now kind) (now switch) (now instance) (now round) (now voteRound) (now high) (now low))
   -- With these four a run begins (`RunBegins` of agreement).
   pub of-primary-fresh : Does primary-fresh.Learnt λ _ (M, (N, (next, _))) answer (_, (_, (next′, _))).
       outcome answer (now next′)

@@ -33,7 +33,10 @@ use Rattle.messages.proofs.fields_of.Reads as fields-of
 use Rattle.wire.proofs.read_packet.Reads as read-packet
 use Rattle.wire.proofs.refusal.Reads as refusal
 use Rattle.wire.proofs.put_message.Reads as put-message
+use Rattle.wire.proofs.write_fields.Reads as write-fields
 use Rattle.wire.proofs.write_packet.Reads as write-packet
+use Rattle.packets.proofs.myrthakel_packet_write.Reads as packet-write
+use Rattle.packets.proofs.myrthakel_packet_read.Reads as packet-read
 use Rattle.quorum.proofs.settings_allowed.Reads as settings-allowed
 use Rattle.quorum.proofs.majority.Reads as majority
 use Rattle.quorum.proofs.has_member.Reads as has-member
@@ -171,7 +174,11 @@ pub record EveryCall : Type 0 where
   pub of-read-packet : OneAnswer read-packet.Learnt
   pub of-refusal : OneAnswer refusal.Learnt
   pub of-put-message : OneContent put-message.Learnt (λ κs exit. held-1 exit)
+  pub of-write-fields : OneAnswer write-fields.Learnt × OneContent write-fields.Learnt (λ κs exit. held-1 exit)
   pub of-write-packet : OneAnswer write-packet.Learnt × OneContent write-packet.Learnt (λ κs exit. held-1 exit)
+  -- packets
+  pub of-packet-write : OneAnswer packet-write.Learnt × OneContent packet-write.Learnt (λ κs exit. held-1 (exit .1 .1 .1 .1 .1 .1 .1))
+  pub of-packet-read : OneAnswer packet-read.Learnt × OneContent packet-read.Learnt (λ κs exit. held-7 (exit .1))
   -- quorum
   pub of-settings-allowed : OneAnswer settings-allowed.Learnt
   pub of-majority : OneAnswer majority.Learnt

@@ -30,7 +30,7 @@ use Rattle.messages.specs.Table.{requestRow, prepareRow, promiseRow, proposeRow
 use Rattle.messages.specs.Message.{fields, messageOf, fieldsOf}
 use Rattle.wire.specs.declared.Reading.{Reading}
 use Rattle.wire.specs.declared.Reading.the-variants.{Read, Refused}
-use Rattle.wire.specs.Packet.{packetLength, version, marked, fieldsIn, readPacket, Kept, packetWith, packetOf, writePacket}
+use Rattle.wire.specs.Packet.{packetLength, version, marked, fieldsIn, readPacket, Kept, packetWith, packetOf, writeFields, writePacket}
 use Rattle.wire.specs.Promises.{InRange, WriteThenRead, ReadThenWrite, ReadingIffKept}
 
 -- ---- packet and fields
@@ -125,7 +125,7 @@ by-kind (suc (suc (suc (suc (suc k))))) s i r b v h =
     let other : (j : ℕ) → j < 5 → eqb n j ≡ false = λ j l. ne-eqb n j (λ q. omega arith) in
     absurd (true≢false (sym (simp (other 0 (omega arith), other 1 (omega arith), other 2 (omega arith), other 3 (omega arith), other 4 (omega arith)) at (h .switch))))
 
-fields-of-message : (f : Fields) → keepsTable f ≡ true → fieldsOf (messageOf f) ≡ f
+pub fields-of-message : (f : Fields) → keepsTable f ≡ true → fieldsOf (messageOf f) ≡ f
 fields-of-message f e = by-kind (f .kind) (f .switch) (f .instance) (f .round) (f .«vote_round») (f .value) (columns f e)
 
 -- ---- the three claims
@@ -149,7 +149,7 @@ unfolding need_or_then_
 passed true n r m e = (refl, e)
 passed false n r m e = let z : _≡_ {A = ℕ} 0 1 = cc in absurd (omega arith)
 
-kept-kind : (f : Fields) → keepsTable f ≡ true → leb (f .kind) 4 ≡ true
+pub kept-kind : (f : Fields) → keepsTable f ≡ true → leb (f .kind) 4 ≡ true
 kept-kind f e = subst (λ (g : Fields). leb (g .kind) 4 ≡ true) (fields-of-message f e) (kind-known (messageOf f))
 
 kept-reads : (p : List ℕ) → Kept p → readPacket p ≡ Read (messageOf (fieldsIn p))
@@ -182,7 +182,7 @@ unfolding packetOf
 read-packet-of p m h e = let k = read-kept p m e in ap packetWith (read-fields p m e) ∙ bytes-back p h (k .long) (k .mark) (k .versioned)
 
 pub write-then-read : WriteThenRead
-unfolding writePacket need_or_then_
+unfolding writePacket writeFields packetOf need_or_then_
 write-then-read m q left h e = go (eqb (length q) packetLength) (keepsTable (fieldsOf m)) refl e
   where
     go : (long kept : Bool) → keepsTable (fieldsOf m) ≡ kept
@@ -193,7 +193,7 @@ write-then-read m q left h e = go (eqb (length q) packetLength) (keepsTable (fie
     go false kept k w = absurd (omega (arith, ap (λ x. x .answer) w))
 
 pub read-then-write : ReadThenWrite
-unfolding writePacket need_or_then_
+unfolding writePacket writeFields packetOf need_or_then_
 read-then-write p q m h n e =
     let kept : keepsTable (fieldsOf m) ≡ true = rw (read-fields p m e) (read-kept p m e .table) in
     rw (eq-eqb (length q) packetLength n, kept, read-packet-of p m h e)

@@ -12,12 +12,12 @@ use Rattle.numbers.proofs.Bytes.{written-out}
 use Rattle.basics.specs.declared.Verdict.the-variants.{Done}
 use Rattle.basics.specs.Ladder.{if_then_else_, need_or_then_}
 use Rattle.basics.specs.Verdict.{verdictNumber}
-use Rattle.basics.specs.Outcome.{outcome}
+use Rattle.basics.specs.Outcome.{Outcome, outcome}
 use Rattle.messages.specs.declared.Fields.{Fields}
 use Rattle.messages.specs.declared.Message.{Message}
 use Rattle.messages.specs.Table.{keepsTable}
 use Rattle.messages.specs.Message.{fieldsOf}
-use Rattle.wire.specs.Packet.{packetLength, version, packetWith, packetOf, withMessage, writePacket}
+use Rattle.wire.specs.Packet.{packetLength, version, packetWith, packetOf, withMessage, writeFields, writePacket}
 
 -- the stores of the fields, one after the other
 abbrev stores : List ℕ → Fields → List ℕ
@@ -38,20 +38,26 @@ module _ (p : List ℕ) (m : Message) where
   unfolding withMessage if_then_else_
   nothing-put other = rw (ne-eqb (length p) packetLength other)
 
-  pub refused-1 : (length p ≡ packetLength → ⊥) → outcome 1 p ≡ writePacket m p
-  unfolding writePacket need_or_then_
-  refused-1 other = rw (ne-eqb (length p) packetLength other)
-
   module _ (long : length p ≡ packetLength) (f : Fields) (f-so : f ≡ fieldsOf m) where
     pub put : (q : List ℕ) → q ≡ packetWith f → q ≡ withMessage p m
     unfolding withMessage packetOf if_then_else_
     put q q-so = rw (eq-eqb (length p) packetLength long) (q-so ∙ ap packetWith f-so)
 
-    module _ (kept : Bool) (kept-so : kept ≡ keepsTable f) where
-      pub refused-5 : not kept ≡ true → outcome 5 p ≡ writePacket m p
-      unfolding writePacket need_or_then_
-      refused-5 broken = rw (eq-eqb (length p) packetLength long, ← f-so, ← kept-so, not-true kept broken)
+  -- a message is written as its fields
+  pub as-fields : (f : Fields) → f ≡ fieldsOf m → (o : Outcome (List ℕ)) → o ≡ writeFields f p → o ≡ writePacket m p
+  unfolding writePacket
+  as-fields f f-so o o-so = o-so ∙ ap (λ g. writeFields g p) f-so
 
-      pub wrote : not kept ≡ false → (q : List ℕ) (answer : ℕ) → q ≡ packetWith f → answer ≡ verdictNumber Done → outcome answer q ≡ writePacket m p
-      unfolding writePacket packetOf need_or_then_
-      wrote sound q answer q-so answer-so = rw (eq-eqb (length p) packetLength long, ← f-so, ← kept-so, not-false kept sound, q-so, answer-so)
+module _ (p : List ℕ) (f : Fields) where
+  pub refused-1 : (length p ≡ packetLength → ⊥) → outcome 1 p ≡ writeFields f p
+  unfolding writeFields need_or_then_
+  refused-1 other = rw (ne-eqb (length p) packetLength other)
+
+  module _ (long : length p ≡ packetLength) (kept : Bool) (kept-so : kept ≡ keepsTable f) where
+    pub refused-5 : not kept ≡ true → outcome 5 p ≡ writeFields f p
+    unfolding writeFields need_or_then_
+    refused-5 broken = rw (eq-eqb (length p) packetLength long, ← kept-so, not-true kept broken)
+
+    pub wrote : not kept ≡ false → (q : List ℕ) (answer : ℕ) → q ≡ packetWith f → answer ≡ verdictNumber Done → outcome answer q ≡ writeFields f p
+    unfolding writeFields need_or_then_
+    wrote sound q answer q-so answer-so = rw (eq-eqb (length p) packetLength long, ← kept-so, not-false kept sound, q-so, answer-so)

@@ -77,9 +77,13 @@ packetOf m = packetWith (fieldsOf m)
 unfoldable pub withMessage : List ℕ → Message → List ℕ
 withMessage p m = if eqb (length p) packetLength then packetOf m else p
 
--- What writing answers, and what the packet holds then: refused by 1 where the packet has another length, by 5 where the message breaks the table.
-unfoldable pub writePacket : Message → List ℕ → Outcome (List ℕ)
-writePacket m p =
+-- What writing answers, and what the packet holds then: refused by 1 where the packet has another length, by 5 where the fields break the table.
+unfoldable pub writeFields : Fields → List ℕ → Outcome (List ℕ)
+writeFields f p =
     need eqb (length p) packetLength or outcome 1 p then
-    need keepsTable (fieldsOf m) or outcome 5 p then
-    outcome (verdictNumber Done) (packetOf m)
+    need keepsTable f or outcome 5 p then
+    outcome (verdictNumber Done) (packetWith f)
+
+-- A message is written as its fields.
+unfoldable pub writePacket : Message → List ℕ → Outcome (List ℕ)
+writePacket m = writeFields (fieldsOf m)

@@ -4,7 +4,7 @@ ghost use mathlib.Core.List.{[], _∷_};
 ghost use lib.ListN.{length};
 ghost use lib.Seq.{sets};
 ghost use Rattle.basics.specs.Outcome.{outcome};
-ghost use Rattle.wire.specs.Packet.{packetLength, marked, fieldsIn, readPacket, refusalOf, packetWith, withMessage, writePacket};
+ghost use Rattle.wire.specs.Packet.{packetLength, marked, fieldsIn, readPacket, refusalOf, packetWith, withMessage, writeFields, writePacket};
 use basics::Instance;
 use basics::Round;
 use basics::Value;
@@ -111,17 +111,23 @@ pub fn put_message(packet: &mut [u8], message: Message)
     }
 }
 
-// For a message of any content: refused by 1 and 5, and a refusal writes nothing.
-pub fn write_packet(packet: &mut [u8], message: Message) -> u32
-    ensures { λ r. ⌜ outcome r (now (packet .exit)) ≡ writePacket message (now (packet .entry)) ⌝ }
+// For fields of any content, which are judged as they are given: refused by 1 and 5, and a refusal writes nothing.
+pub fn write_fields(packet: &mut [u8], f: Fields) -> u32
+    ensures { λ r. ⌜ outcome r (now (packet .exit)) ≡ writeFields f (now (packet .entry)) ⌝ }
 {
     if packet.len() != PACKET_LENGTH {
         return 1;
     }
-    let f = messages::fields_of(message);
     if !messages::keeps_table(f) {
         return 5;
     }
     put_fields(packet, f);
     basics::verdict_number(Verdict::Done)
+}
+
+// For a message of any content.
+pub fn write_packet(packet: &mut [u8], message: Message) -> u32
+    ensures { λ r. ⌜ outcome r (now (packet .exit)) ≡ writePacket message (now (packet .entry)) ⌝ }
+{
+    write_fields(packet, messages::fields_of(message))
 }

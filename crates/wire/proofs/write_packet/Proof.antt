@@ -1,47 +1,22 @@
--- `wire::write_packet` meets its contract: each return is a way out of `writePacket`.
+-- `wire::write_packet` meets its contract: a message is written as its fields.
 -- Assumes nothing.
-use Rattle.wire.proofs.WriteWays.{refused-1, refused-5, wrote}
+use Rattle.wire.proofs.WriteWays.{as-fields}
 use borrow.Author.Needs.{needs}
 use Rattle.wire.proofs.write_packet.Statement.{statement}
 use Rattle.wire.proofs.write_packet.Tie as tie
 
-returns : tie.Need-returns
-returns c = refused-1 _ _ (c .if1 .taken)
-
 fields-of-requires : tie.Need-fields-of-requires
 fields-of-requires c κs = search needs
 
-keeps-table-requires : tie.Need-keeps-table-requires
-keeps-table-requires c κs = search needs
-
-returns-2 : tie.Need-returns-2
-returns-2 c = refused-5 _ _ (c .before .before .before .if1 .left) _ (c .before .before .fields-of .ensures) _ (c .before .keeps-table .ensures) (c .if2 .taken)
-
-put-fields-requires : tie.Need-put-fields-requires
-put-fields-requires c κs = search needs
-
-verdict-number-requires : tie.Need-verdict-number-requires
-verdict-number-requires c κs = search needs
+write-fields-requires : tie.Need-write-fields-requires
+write-fields-requires c κs = search needs
 
 same-length : tie.Need-same-length
 same-length c = search needs
 
-returns-3 : tie.Need-returns-3
-returns-3 c =
-    let stored = c .before .before .before in
-    let tested = stored .before .before in
-    wrote _ _ (tested .before .before .before .if1 .left) _ (tested .before .before .fields-of .ensures) _ (tested .before .keeps-table .ensures) (tested .if2 .left)
-    _ _ (stored .put-fields .ensures) (c .verdict-number .ensures)
+returns : tie.Need-returns
+returns c = as-fields _ _ _ (c .before .before .before .fields-of .ensures) _ (c .before .before .write-fields .ensures)
 
 pub write-packet-spec : {M : Type 1} → statement M
 write-packet-spec =
-    tie.close
-    (tie.spec
-    returns
-    fields-of-requires
-    keeps-table-requires
-    returns-2
-    put-fields-requires
-    verdict-number-requires
-    same-length
-    returns-3)
+    tie.close (tie.spec fields-of-requires write-fields-requires same-length returns)
