@@ -82,7 +82,8 @@ enum {
 /*
  * Packets. Writes one of these fields over the packet, whatever it holds: done. All fields are judged as they are given, those too that the type's row of
  * the packet table fixes: 0 as a request's instance and round, its owner's number as the switch number of a prepare or a propose, none as the vote round of
- * all three, null as a prepare's value, and a vote's own round as its vote round. Refusals: 1, 4, 5 (a switch number over 65535 too).
+ * all three, null as a prepare's value, and a vote's own round as its vote round. In a run a host writes requests alone: all others are the players' to send.
+ * Refusals: 1, 4, 5 (a switch number over 65535 too).
  */
 uint32_t myrthakel_packet_write(uint32_t kind, uint32_t switch_number, uint32_t instance, uint32_t round, uint32_t vote_round,
                                 uint64_t value_high, uint64_t value_low,

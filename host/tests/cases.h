@@ -1,4 +1,4 @@
-/* What the tests in C share: counting, and packets made by hand. M = 3, N = 8; v is the value that ends in 2a. */
+/* What the tests in C share: counting, and packets made and read by the library's calls. M = 3, N = 8; v is the value that ends in 2a. */
 #ifndef CASES_H
 #define CASES_H
 
@@ -21,33 +21,39 @@ static inline void expect(int holds, const char *what)
     }
 }
 
-static inline void put_number(uint8_t *bytes, int width, uint32_t number)
+/* A packet's fields. */
+typedef struct {
+    uint32_t kind, switch_number, instance, round, vote_round;
+    uint64_t value_high, value_low;
+} fields;
+
+static inline uint32_t write_fields(const fields *f, uint8_t *packet, size_t length)
 {
-    for (int i = width - 1; i >= 0; i--) {
-        bytes[i] = (uint8_t)number;
-        number >>= 8;
-    }
+    return myrthakel_packet_write(f->kind, f->switch_number, f->instance, f->round, f->vote_round, f->value_high, f->value_low, packet, length);
 }
 
-/* A packet with a value whose last byte is given and whose others are zero. */
-static inline void make(uint8_t *packet, uint8_t type, uint32_t number, uint32_t instance, uint32_t round, uint32_t vote_round, uint8_t last)
+static inline uint32_t read_fields(const uint8_t *packet, size_t length, fields *f)
 {
-    memset(packet, 0, MYRTHAKEL_PACKET_LENGTH);
-    memcpy(packet, "RDE", 3);
-    packet[3] = type;
-    put_number(packet + 4, 2, 1);
-    put_number(packet + 6, 2, number);
-    put_number(packet + 8, 4, instance);
-    put_number(packet + 12, 4, round);
-    put_number(packet + 16, 4, vote_round);
-    packet[35] = last;
+    return myrthakel_packet_read(packet, length, &f->kind, &f->switch_number, &f->instance, &f->round, &f->vote_round, &f->value_high, &f->value_low);
 }
 
-static inline int is_packet(const uint8_t *packet, uint8_t type, uint32_t number, uint32_t instance, uint32_t round, uint32_t vote_round, uint8_t last)
+static inline int same_fields(const fields *one, const fields *other)
 {
-    uint8_t wanted[MYRTHAKEL_PACKET_LENGTH];
-    make(wanted, type, number, instance, round, vote_round, last);
-    return memcmp(packet, wanted, sizeof wanted) == 0;
+    return one->kind == other->kind && one->switch_number == other->switch_number && one->instance == other->instance && one->round == other->round
+           && one->vote_round == other->vote_round && one->value_high == other->value_high && one->value_low == other->value_low;
+}
+
+/* A packet whose value has the lower half given, and no upper one. One that the writer refuses is a slip of the test. */
+static inline void make(uint8_t *packet, uint32_t kind, uint32_t switch_number, uint32_t instance, uint32_t round, uint32_t vote_round, uint64_t low)
+{
+    if (myrthakel_packet_write(kind, switch_number, instance, round, vote_round, 0, low, packet, MYRTHAKEL_PACKET_LENGTH) != MYRTHAKEL_DONE)
+        expect(0, "a packet of the test's is written");
+}
+
+static inline int is_packet(const uint8_t *packet, uint32_t kind, uint32_t switch_number, uint32_t instance, uint32_t round, uint32_t vote_round, uint64_t low)
+{
+    fields f = {0}, wanted = {kind, switch_number, instance, round, vote_round, 0, low};
+    return read_fields(packet, MYRTHAKEL_PACKET_LENGTH, &f) == MYRTHAKEL_DONE && same_fields(&f, &wanted);
 }
 
 /* The answer of a call that sets tables fresh. A test that wants others fills them behind it. */

@@ -16,9 +16,9 @@ static void make_unheard(learner *l)
 static uint32_t vote(learner *l, uint32_t acceptors, uint32_t sender, uint32_t instance, uint32_t round, uint8_t last)
 {
     uint8_t packet[MYRTHAKEL_PACKET_LENGTH];
-    make(packet, 4, sender, instance, round, round, last);
+    make(packet, MYRTHAKEL_VOTE, sender, instance, round, round, last);
     uint32_t answer = myrthakel_learner_step(acceptors, N, packet, 36, l->rounds, N, l->sets, N, l->values, 2 * N);
-    expect(is_packet(packet, 4, sender, instance, round, round, last), "a learner leaves the packet as it came");
+    expect(is_packet(packet, MYRTHAKEL_VOTE, sender, instance, round, round, last), "a learner leaves the packet as it came");
     return answer;
 }
 

@@ -27,17 +27,17 @@ static uint32_t unless_changed(uint32_t answer, const void *before, const void *
 
 /* Packets. */
 
-static buffer packet(uint8_t type, uint32_t number, uint32_t instance, uint32_t round, uint32_t vote_round, uint8_t last)
+static buffer packet(uint32_t kind, uint32_t switch_number, uint32_t instance, uint32_t round, uint32_t vote_round, uint64_t low)
 {
     buffer p = {{0}, MYRTHAKEL_PACKET_LENGTH};
-    make(p.bytes, type, number, instance, round, vote_round, last);
+    make(p.bytes, kind, switch_number, instance, round, vote_round, low);
     return p;
 }
 
-static buffer request(void) { return packet(0, 9, 0, 0, MYRTHAKEL_NONE, 0x2a); }
-static buffer promise(uint32_t sender, uint32_t instance, uint32_t round) { return packet(2, sender, instance, round, MYRTHAKEL_NONE, 0); }
-static buffer propose(uint32_t instance, uint32_t round) { return packet(3, round % 4, instance, round, MYRTHAKEL_NONE, 0); }
-static buffer vote(uint32_t sender, uint32_t instance, uint32_t round, uint8_t last) { return packet(4, sender, instance, round, round, last); }
+static buffer request(void) { return packet(MYRTHAKEL_REQUEST, 9, 0, 0, MYRTHAKEL_NONE, 0x2a); }
+static buffer promise(uint32_t sender, uint32_t instance, uint32_t round) { return packet(MYRTHAKEL_PROMISE, sender, instance, round, MYRTHAKEL_NONE, 0); }
+static buffer propose(uint32_t instance, uint32_t round) { return packet(MYRTHAKEL_PROPOSE, round % 4, instance, round, MYRTHAKEL_NONE, 0); }
+static buffer vote(uint32_t sender, uint32_t instance, uint32_t round, uint64_t low) { return packet(MYRTHAKEL_VOTE, sender, instance, round, round, low); }
 
 static buffer set(buffer p, size_t at, uint8_t byte)
 {
@@ -195,7 +195,7 @@ static void backup_order(void)
     row("9 before 17: sender M, phase 3", backup(3, 0, 3, promise(3, 0, 1)), 9);
     row("9 before 17: sender M, phase 3", backup(3, 0, 5, promise(5, 0, 1)), 9);
     row("8 before 17: instance 8, phase 3", backup(3, 0, 7, promise(6, 8, 1)), 8);
-    row("5 and not 9: M is 7, sender 7", backup(3, 0, 7, promise(7, 8, 1)), 5);
+    row("5 and not 9: M is 7, sender 7", backup(3, 0, 7, set(promise(6, 8, 1), 7, 7)), 5);
     row("17 before 11: asking with majority, another round", backup(1, 3, 3, promise(2, 0, 5)), 17);
     row("17 before 11: asking with majority, another round", backup(1, 7, 5, promise(4, 0, 5)), 17);
     row("17 before 11: asking with majority, another round", backup(1, 15, 7, promise(6, 0, 5)), 17);
@@ -271,7 +271,7 @@ static void learner_order(void)
     row("9 before 17: sender M, no voters", learner(0, 3, vote(3, 0, 5, 0)), 9);
     row("9 before 17: sender M, no voters", learner(0, 5, vote(5, 0, 5, 0)), 9);
     row("8 before 17: instance 8, no voters", learner(0, 7, vote(6, 8, 5, 0)), 8);
-    row("5 and not 9: M is 7, sender 7", learner(0, 7, vote(7, 8, 5, 0)), 5);
+    row("5 and not 9: M is 7, sender 7", learner(0, 7, set(vote(6, 8, 5, 0), 7, 7)), 5);
     row("17 before 14: more voters than majority", learner(7, 3, vote(0, 0, 5, 0)), 17);
     row("17 before 14: more voters than majority", learner(15, 5, vote(0, 0, 5, 0)), 17);
     row("17 before 14: more voters than majority", learner(31, 7, vote(0, 0, 5, 0)), 17);
@@ -377,6 +377,42 @@ static void reading_back_order(void)
     row("17: no voters", reading_back(5, saved()), 17);
 }
 
+/* Writing a packet of value v over zeros, and reading one into numbers. */
+
+static uint32_t writing(uint32_t kind, uint32_t switch_number, uint32_t round, size_t length)
+{
+    buffer before = zeros(length), lent = zeros(length);
+    uint32_t answered = myrthakel_packet_write(kind, switch_number, 0, round, MYRTHAKEL_NONE, 0, 0x2a, lent.bytes, length);
+    return unless_changed(answered, before.bytes, lent.bytes, sizeof before.bytes);
+}
+
+static void writing_order(void)
+{
+    row("1 before 4: 35 bytes, type 5", writing(5, 9, 0, 35), 1);
+    row("1 before 5: 37 bytes, switch number 65,536", writing(0, 65536, 0, 37), 1);
+    row("4 before 5: type 5, switch number 65,536", writing(5, 65536, 0, 36), 4);
+    row("4 before 5: type 256, a round that a request has not", writing(256, 9, 1, 36), 4);
+    row("5: a request's switch number 65,536", writing(0, 65536, 0, 36), 5);
+    row("5: a round that a request has not", writing(0, 9, 1, 36), 5);
+}
+
+static uint32_t reading_into(buffer p)
+{
+    buffer lent = p;
+    fields before = {11, 12, 13, 14, 15, 16, 17}, f = before;
+    uint32_t answered = read_fields(lent.bytes, lent.length, &f);
+    return same_fields(&f, &before) ? unless_changed(answered, p.bytes, lent.bytes, sizeof p.bytes) : 0;
+}
+
+static void reading_into_order(void)
+{
+    row("1 before 2: 37 bytes, the mark from the second on", reading_into(shifted(request())), 1);
+    row("2 before 3: another mark, version 2", reading_into(set(set(request(), 0, 0), 5, 2)), 2);
+    row("3 before 4: version 2, type 5", reading_into(set(set(request(), 5, 2), 3, 5)), 3);
+    row("4 before 5: type 5, round 4, which is nobody's", reading_into(set(set(request(), 3, 5), 15, 4)), 4);
+    row("5: round 4, which is nobody's", reading_into(set(request(), 15, 4)), 5);
+}
+
 int main(void)
 {
     call = "primary by a slice";
@@ -397,5 +433,9 @@ int main(void)
     walk_orders();
     call = "reading back";
     reading_back_order();
+    call = "writing a packet";
+    writing_order();
+    call = "reading a packet";
+    reading_into_order();
     return told();
 }

@@ -27,33 +27,33 @@ static void acceptor_cases(void)
     uint8_t packet[MYRTHAKEL_PACKET_LENGTH + 1] = {0}, before[MYRTHAKEL_PACKET_LENGTH];
     acceptor a, kept;
     make_fresh(&a);
-    make(packet, 3, 0, 0, 0, MYRTHAKEL_NONE, 0x2a);
+    make(packet, MYRTHAKEL_PROPOSE, 0, 0, 0, MYRTHAKEL_NONE, 0x2a);
     expect(acceptor_step(&a, packet, 36) == MYRTHAKEL_TO_LEARNERS, "fresh acceptor, propose round 0, v: vote");
-    expect(is_packet(packet, 4, 0, 0, 0, 0, 0x2a), "the vote carries v");
+    expect(is_packet(packet, MYRTHAKEL_VOTE, 0, 0, 0, 0, 0x2a), "the vote carries v");
     expect(is_cell(&a, 0, 0, 0, 0x2a), "cell 0, 0, v");
 
-    make(packet, 1, 1, 0, 1, MYRTHAKEL_NONE, 0);
+    make(packet, MYRTHAKEL_PREPARE, 1, 0, 1, MYRTHAKEL_NONE, 0);
     expect(acceptor_step(&a, packet, 36) == MYRTHAKEL_TO_LEADER, "then prepare round 1: promise");
-    expect(is_packet(packet, 2, 0, 0, 1, 0, 0x2a), "the promise carries vote round 0 and v");
+    expect(is_packet(packet, MYRTHAKEL_PROMISE, 0, 0, 1, 0, 0x2a), "the promise carries vote round 0 and v");
     expect(is_cell(&a, 0, 1, 0, 0x2a), "the cell's round is 1");
 
-    make(packet, 3, 0, 0, 0, MYRTHAKEL_NONE, 0x2a);
+    make(packet, MYRTHAKEL_PROPOSE, 0, 0, 0, MYRTHAKEL_NONE, 0x2a);
     memcpy(before, packet, sizeof before);
     kept = a;
     expect(acceptor_step(&a, packet, 36) == MYRTHAKEL_ROUND_BELOW, "then propose round 0: refusal 10");
     expect(memcmp(packet, before, sizeof before) == 0 && memcmp(&a, &kept, sizeof a) == 0, "the refusal changes nothing");
 
     make_fresh(&a);
-    make(packet, 1, 1, 0, 1, MYRTHAKEL_NONE, 0);
+    make(packet, MYRTHAKEL_PREPARE, 1, 0, 1, MYRTHAKEL_NONE, 0);
     expect(acceptor_step(&a, packet, 36) == MYRTHAKEL_TO_LEADER, "fresh acceptor, prepare round 1: promise");
-    expect(is_packet(packet, 2, 0, 0, 1, MYRTHAKEL_NONE, 0), "the promise carries none and null");
+    expect(is_packet(packet, MYRTHAKEL_PROMISE, 0, 0, 1, MYRTHAKEL_NONE, 0), "the promise carries none and null");
 
-    make(packet, 3, 0, 7, 0, MYRTHAKEL_NONE, 0x2a);
+    make(packet, MYRTHAKEL_PROPOSE, 0, 7, 0, MYRTHAKEL_NONE, 0x2a);
     expect(acceptor_step(&a, packet, 36) == MYRTHAKEL_TO_LEARNERS, "instance 7 is taken");
     expect(is_cell(&a, 7, 0, 0, 0x2a) && is_cell(&a, 6, 0, MYRTHAKEL_NONE, 0), "in its own cell");
-    make(packet, 3, 0, 8, 0, MYRTHAKEL_NONE, 0x2a);
+    make(packet, MYRTHAKEL_PROPOSE, 0, 8, 0, MYRTHAKEL_NONE, 0x2a);
     expect(acceptor_step(&a, packet, 36) == MYRTHAKEL_INSTANCE_BEYOND, "instance 8 is refused");
-    make(packet, 3, 0, 1, 0, MYRTHAKEL_NONE, 0x2a);
+    make(packet, MYRTHAKEL_PROPOSE, 0, 1, 0, MYRTHAKEL_NONE, 0x2a);
     expect(acceptor_step(&a, packet, 35) == MYRTHAKEL_WRONG_LENGTH, "35 bytes are refused");
     expect(acceptor_step(&a, packet, 37) == MYRTHAKEL_WRONG_LENGTH, "37 bytes are refused");
     expect(myrthakel_acceptor_step(4, N, 0, packet, 36, a.rounds, N, a.vote_rounds, N, a.values, 2 * N) == MYRTHAKEL_NOT_ALLOWED, "M = 4 is refused");
@@ -68,18 +68,18 @@ static void primary_cases(void)
     uint8_t packet[MYRTHAKEL_PACKET_LENGTH];
     uint32_t next = 99;
     fresh(myrthakel_primary_fresh(M, N, &next, 1));
-    make(packet, 0, 9, 0, 0, MYRTHAKEL_NONE, 0x2a);
+    make(packet, MYRTHAKEL_REQUEST, 9, 0, 0, MYRTHAKEL_NONE, 0x2a);
     expect(myrthakel_primary_step(M, N, packet, 36, &next, 1) == MYRTHAKEL_TO_ACCEPTORS, "a request becomes a propose");
-    expect(is_packet(packet, 3, 0, 0, 0, MYRTHAKEL_NONE, 0x2a), "with instance 0, round 0, switch number 0 and its value");
-    make(packet, 0, 9, 0, 0, MYRTHAKEL_NONE, 0x2a);
+    expect(is_packet(packet, MYRTHAKEL_PROPOSE, 0, 0, 0, MYRTHAKEL_NONE, 0x2a), "with instance 0, round 0, switch number 0 and its value");
+    make(packet, MYRTHAKEL_REQUEST, 9, 0, 0, MYRTHAKEL_NONE, 0x2a);
     expect(myrthakel_primary_step(M, N, packet, 36, &next, 1) == MYRTHAKEL_TO_ACCEPTORS, "a repeated request is taken");
-    expect(is_packet(packet, 3, 0, 1, 0, MYRTHAKEL_NONE, 0x2a) && next == 2, "and gets a second instance");
+    expect(is_packet(packet, MYRTHAKEL_PROPOSE, 0, 1, 0, MYRTHAKEL_NONE, 0x2a) && next == 2, "and gets a second instance");
     expect(myrthakel_primary_step(M, N, packet, 36, &next, 1) == MYRTHAKEL_WRONG_KIND, "a propose is refused");
 
     fresh(myrthakel_primary_fresh(M, N, &next, 1));
-    make(packet, 0, 9, 0, 0, MYRTHAKEL_NONE, 0x2a);
+    make(packet, MYRTHAKEL_REQUEST, 9, 0, 0, MYRTHAKEL_NONE, 0x2a);
     expect(myrthakel_primary_step(M, 1, packet, 36, &next, 1) == MYRTHAKEL_TO_ACCEPTORS, "N = 1: the first request is taken");
-    make(packet, 0, 9, 0, 0, MYRTHAKEL_NONE, 0x2a);
+    make(packet, MYRTHAKEL_REQUEST, 9, 0, 0, MYRTHAKEL_NONE, 0x2a);
     expect(myrthakel_primary_step(M, 1, packet, 36, &next, 1) == MYRTHAKEL_NO_INSTANCE_LEFT && next == 1, "N = 1: the second is refused");
     next = 2;
     expect(myrthakel_primary_step(M, 1, packet, 36, &next, 1) == MYRTHAKEL_IMPOSSIBLE_CELL && next == 2, "next above N is impossible");
@@ -90,7 +90,8 @@ static void primary_cases(void)
     expect(myrthakel_primary_step(M, N, packet, 36, &next, 0) == MYRTHAKEL_NOT_ALLOWED, "a record of no number is refused");
     expect(myrthakel_primary_step(M, 1024, packet, 36, &next, 1) == MYRTHAKEL_TO_ACCEPTORS && next == 1, "N = 1,024 is allowed");
     fresh(myrthakel_primary_fresh(M, N, &next, 1));
-    make(packet, 0, 9, 0, 0, MYRTHAKEL_NONE, 0);
+    make(packet, MYRTHAKEL_REQUEST, 9, 0, 0, MYRTHAKEL_NONE, 0x2a);
+    packet[35] = 0;
     expect(myrthakel_primary_step(M, N, packet, 36, &next, 1) == MYRTHAKEL_BROKEN_FIELD && next == 0, "a null request is refused");
 }
 
@@ -99,20 +100,20 @@ static void request_cases(void)
     uint8_t packet[MYRTHAKEL_PACKET_LENGTH + 1] = {0}, before[MYRTHAKEL_PACKET_LENGTH];
     struct myrthakel_primary primary = {99};
     fresh(myrthakel_primary_fresh(M, N, &primary.next, 1));
-    make(packet, 0, 9, 0, 0, MYRTHAKEL_NONE, 0x2a);
+    make(packet, MYRTHAKEL_REQUEST, 9, 0, 0, MYRTHAKEL_NONE, 0x2a);
     expect(myrthakel_primary_request(M, N, packet, 36, &primary) == MYRTHAKEL_TO_ACCEPTORS, "by reference: a request becomes a propose");
-    expect(is_packet(packet, 3, 0, 0, 0, MYRTHAKEL_NONE, 0x2a), "by reference: with instance 0, round 0, switch number 0 and its value");
-    make(packet, 0, 9, 0, 0, MYRTHAKEL_NONE, 0x2a);
+    expect(is_packet(packet, MYRTHAKEL_PROPOSE, 0, 0, 0, MYRTHAKEL_NONE, 0x2a), "by reference: with instance 0, round 0, switch number 0 and its value");
+    make(packet, MYRTHAKEL_REQUEST, 9, 0, 0, MYRTHAKEL_NONE, 0x2a);
     expect(myrthakel_primary_request(M, N, packet, 36, &primary) == MYRTHAKEL_TO_ACCEPTORS, "by reference: a repeated request is taken");
-    expect(is_packet(packet, 3, 0, 1, 0, MYRTHAKEL_NONE, 0x2a) && primary.next == 2, "by reference: and gets a second instance");
+    expect(is_packet(packet, MYRTHAKEL_PROPOSE, 0, 1, 0, MYRTHAKEL_NONE, 0x2a) && primary.next == 2, "by reference: and gets a second instance");
     memcpy(before, packet, sizeof before);
     expect(myrthakel_primary_request(M, N, packet, 36, &primary) == MYRTHAKEL_WRONG_KIND, "by reference: a propose is refused");
     expect(memcmp(packet, before, sizeof before) == 0 && primary.next == 2, "by reference: the refusal changes nothing");
 
     fresh(myrthakel_primary_fresh(M, N, &primary.next, 1));
-    make(packet, 0, 9, 0, 0, MYRTHAKEL_NONE, 0x2a);
+    make(packet, MYRTHAKEL_REQUEST, 9, 0, 0, MYRTHAKEL_NONE, 0x2a);
     expect(myrthakel_primary_request(M, 1, packet, 36, &primary) == MYRTHAKEL_TO_ACCEPTORS, "by reference: N = 1: the first request is taken");
-    make(packet, 0, 9, 0, 0, MYRTHAKEL_NONE, 0x2a);
+    make(packet, MYRTHAKEL_REQUEST, 9, 0, 0, MYRTHAKEL_NONE, 0x2a);
     memcpy(before, packet, sizeof before);
     expect(myrthakel_primary_request(M, 1, packet, 36, &primary) == MYRTHAKEL_NO_INSTANCE_LEFT && primary.next == 1, "by reference: N = 1: the second is refused");
     primary.next = 2;
@@ -126,7 +127,8 @@ static void request_cases(void)
     expect(memcmp(packet, before, sizeof before) == 0 && primary.next == 0, "by reference: no refusal changes anything");
     expect(myrthakel_primary_request(M, 1024, packet, 36, &primary) == MYRTHAKEL_TO_ACCEPTORS && primary.next == 1, "by reference: N = 1,024 is allowed");
     fresh(myrthakel_primary_fresh(M, N, &primary.next, 1));
-    make(packet, 0, 9, 0, 0, MYRTHAKEL_NONE, 0);
+    make(packet, MYRTHAKEL_REQUEST, 9, 0, 0, MYRTHAKEL_NONE, 0x2a);
+    packet[35] = 0;
     expect(myrthakel_primary_request(M, N, packet, 36, &primary) == MYRTHAKEL_BROKEN_FIELD && primary.next == 0, "by reference: a null request is refused");
 }
 
@@ -160,8 +162,8 @@ static void backup_cases(void)
     backup b, kept;
     make_idle(&b);
     expect(start(&b, 1, 0, 0, 0x2a, packet, 36) == MYRTHAKEL_TO_ACCEPTORS, "backup 1, floor 0: a prepare");
-    expect(is_packet(packet, 1, 1, 0, 1, MYRTHAKEL_NONE, 0), "of round 1");
-    expect(start(&b, 1, 0, 0, 0x2a, packet, 36) == MYRTHAKEL_TO_ACCEPTORS && is_packet(packet, 1, 1, 0, 5, MYRTHAKEL_NONE, 0), "started again: round 5");
+    expect(is_packet(packet, MYRTHAKEL_PREPARE, 1, 0, 1, MYRTHAKEL_NONE, 0), "of round 1");
+    expect(start(&b, 1, 0, 0, 0x2a, packet, 36) == MYRTHAKEL_TO_ACCEPTORS && is_packet(packet, MYRTHAKEL_PREPARE, 1, 0, 5, MYRTHAKEL_NONE, 0), "started again: round 5");
 
     make_idle(&b);
     expect(start(&b, 3, 0, UINT32_C(4294967290), 0x2a, packet, 36) == MYRTHAKEL_TO_ACCEPTORS && b.rounds[0] == UINT32_C(4294967291),
@@ -173,7 +175,7 @@ static void backup_cases(void)
     make_idle(&b);
     expect(start(&b, 2, 0, UINT32_C(4294967293), 0x2a, packet, 36) == MYRTHAKEL_TO_ACCEPTORS && b.rounds[0] == UINT32_C(4294967294), "backup 2's last round");
     expect(start(&b, 1, 1, UINT32_C(4294967295), 0x2a, packet, 36) == MYRTHAKEL_NO_ROUND_LEFT, "floor 4,294,967,295: refusal 16");
-    expect(start(&b, 1, 3, 0, 0, packet, 36) == MYRTHAKEL_TO_ACCEPTORS && is_packet(packet, 1, 1, 3, 1, MYRTHAKEL_NONE, 0), "a start with null asks like any other");
+    expect(start(&b, 1, 3, 0, 0, packet, 36) == MYRTHAKEL_TO_ACCEPTORS && is_packet(packet, MYRTHAKEL_PREPARE, 1, 3, 1, MYRTHAKEL_NONE, 0), "a start with null asks like any other");
     expect(start(&b, 1, 8, 0, 0x2a, packet, 36) == MYRTHAKEL_INSTANCE_BEYOND, "a start on instance 8 is refused");
     expect(start(&b, 1, 8, 0, 0x2a, packet, 35) == MYRTHAKEL_WRONG_LENGTH, "a buffer of 35 bytes is refused first");
     expect(start(&b, 0, 1, 0, 0x2a, packet, 36) == MYRTHAKEL_NOT_ALLOWED && start(&b, 4, 1, 0, 0x2a, packet, 36) == MYRTHAKEL_NOT_ALLOWED, "own numbers 0 and 4 are refused");
@@ -181,26 +183,26 @@ static void backup_cases(void)
 
     make_idle(&b);
     expect(start(&b, 1, 0, 0, 0x2b, packet, 36) == MYRTHAKEL_TO_ACCEPTORS, "a backup asks with own value w");
-    make(packet, 2, 0, 0, 1, MYRTHAKEL_NONE, 0);
+    make(packet, MYRTHAKEL_PROMISE, 0, 0, 1, MYRTHAKEL_NONE, 0);
     memcpy(before, packet, sizeof before);
     expect(backup_step(&b, 1, packet) == MYRTHAKEL_HOLD && memcmp(packet, before, sizeof before) == 0, "a promise with none is held");
     expect(backup_step(&b, 1, packet) == MYRTHAKEL_ALREADY_COUNTED, "the same again is refusal 15");
-    make(packet, 2, 3, 0, 1, MYRTHAKEL_NONE, 0);
+    make(packet, MYRTHAKEL_PROMISE, 3, 0, 1, MYRTHAKEL_NONE, 0);
     expect(backup_step(&b, 1, packet) == MYRTHAKEL_SENDER_BEYOND, "sender 3 is refusal 9");
-    make(packet, 2, 1, 0, 5, MYRTHAKEL_NONE, 0);
+    make(packet, MYRTHAKEL_PROMISE, 1, 0, 5, MYRTHAKEL_NONE, 0);
     expect(backup_step(&b, 1, packet) == MYRTHAKEL_NOT_ASKED, "another round is refusal 11");
-    make(packet, 2, 1, 0, 1, 0, 0x2a);
-    expect(backup_step(&b, 1, packet) == MYRTHAKEL_TO_ACCEPTORS && is_packet(packet, 3, 1, 0, 1, MYRTHAKEL_NONE, 0x2a), "a promise with (0, v) makes it propose v");
-    make(packet, 2, 2, 0, 1, MYRTHAKEL_NONE, 0);
+    make(packet, MYRTHAKEL_PROMISE, 1, 0, 1, 0, 0x2a);
+    expect(backup_step(&b, 1, packet) == MYRTHAKEL_TO_ACCEPTORS && is_packet(packet, MYRTHAKEL_PROPOSE, 1, 0, 1, MYRTHAKEL_NONE, 0x2a), "a promise with (0, v) makes it propose v");
+    make(packet, MYRTHAKEL_PROMISE, 2, 0, 1, MYRTHAKEL_NONE, 0);
     expect(backup_step(&b, 1, packet) == MYRTHAKEL_NOT_ASKED, "a third promise is refusal 11");
     expect(backup_step(&b, 1, zeros) == MYRTHAKEL_WRONG_MARK, "zeros are refusal 2");
 
     make_idle(&b);
     start(&b, 1, 2, 0, 0x2b, packet, 36);
-    make(packet, 2, 0, 2, 1, 0, 0);
+    make(packet, MYRTHAKEL_PROMISE, 0, 2, 1, 0, 0);
     backup_step(&b, 1, packet);
-    make(packet, 2, 1, 2, 1, MYRTHAKEL_NONE, 0);
-    expect(backup_step(&b, 1, packet) == MYRTHAKEL_TO_ACCEPTORS && is_packet(packet, 3, 1, 2, 1, MYRTHAKEL_NONE, 0), "a vote for null is proposed, not the own value");
+    make(packet, MYRTHAKEL_PROMISE, 1, 2, 1, MYRTHAKEL_NONE, 0);
+    expect(backup_step(&b, 1, packet) == MYRTHAKEL_TO_ACCEPTORS && is_packet(packet, MYRTHAKEL_PROPOSE, 1, 2, 1, MYRTHAKEL_NONE, 0), "a vote for null is proposed, not the own value");
     b.phases[3] = 3;
     expect(start(&b, 1, 3, 0, 0x2b, packet, 36) == MYRTHAKEL_IMPOSSIBLE_CELL, "phase 3 is impossible");
 }

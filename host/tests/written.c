@@ -16,11 +16,21 @@ static const uint8_t propose_of_primary[36] = {82, 68, 69, 3, 0, 1, 0, 0, 0, 0, 
 static const uint8_t propose_of_backup[36] = {82, 68, 69, 3, 0, 1, 0, 1, 0, 0, 0, 1, 1, 2, 3, 5, 255, 255, 255, 255, VALUE};
 static const uint8_t vote[36] = {82, 68, 69, 4, 0, 1, 0, 2, 0, 0, 0, 1, 1, 2, 3, 5, 1, 2, 3, 5, VALUE};
 
+/* Type, switch number, instance, round, vote round, and the two halves of the value. */
+#define HALVES UINT64_C(0x0102030405060708), UINT64_C(0x090a0b0c0d0e0f10)
+static const fields request_fields = {MYRTHAKEL_REQUEST, 9, 0, 0, 4294967295, HALVES};
+static const fields prepare_fields = {MYRTHAKEL_PREPARE, 1, 1, 16909061, 4294967295, 0, 0};
+static const fields promise_fields = {MYRTHAKEL_PROMISE, 0, 1, 16909061, 0, HALVES};
+static const fields propose_fields = {MYRTHAKEL_PROPOSE, 1, 1, 16909061, 4294967295, HALVES};
+static const fields vote_fields = {MYRTHAKEL_VOTE, 2, 1, 16909061, 16909061, HALVES};
+static const fields null_fields = {MYRTHAKEL_REQUEST, 9, 0, 0, 4294967295, 0, 0};
+static const fields some_fields = {11, 12, 13, 14, 15, 16, 17};
+
 /* Mark, version, M, N; then for each cell its round, set and value. */
 static const uint8_t saved[50] = {82, 68, 84, 0, 1, 3, 0, 2, 255, 255, 255, 255, 0, 0, 0, 0, 0, 0, 0, 0, 0, 0, 0, 0, 0, 0, 0, 0, 0, 1, 2, 3, 5, 4, VALUE};
 
 /* Tables, whose cell 0 is fresh. A value is two numbers, of the bytes 1 to 8 and 9 to 16. */
-#define VALUES {0, 0, UINT64_C(0x0102030405060708), UINT64_C(0x090a0b0c0d0e0f10)}
+#define VALUES {0, 0, HALVES}
 
 typedef struct {
     uint32_t rounds[2], vote_rounds[2];
@@ -55,6 +65,23 @@ static const learner unheard = {{4294967295, 4294967295}, {0, 0}, {0}};
 static const learner heard_of_0 = {{4294967295, 16909061}, {0, 1}, VALUES};
 static const learner heard = {{4294967295, 16909061}, {0, 4}, VALUES};
 static const learner decided = {{4294967295, 16909061}, {0, 5}, VALUES};
+
+static void packet_is(const fields *f, const uint8_t *packet, const char *what)
+{
+    uint8_t written[36] = {0};
+    fields read = some_fields;
+    expect(write_fields(f, written, 36) == 106 && memcmp(written, packet, 36) == 0, what);
+    expect(read_fields(packet, 36, &read) == 106 && same_fields(&read, f), what);
+}
+
+static void null_is_refused(void)
+{
+    uint8_t written[36];
+    fields read = some_fields;
+    memcpy(written, vote, 36);
+    expect(write_fields(&null_fields, written, 36) == 5 && memcmp(written, vote, 36) == 0, "a request of null is not written");
+    expect(read_fields(null_request, 36, &read) == 5 && same_fields(&read, &some_fields), "a request of null is not read");
+}
 
 static void primary_is(const uint8_t *given, uint32_t next, uint32_t answer, const uint8_t *left, uint32_t next_left, const char *what)
 {
@@ -125,7 +152,7 @@ static void learner_cases(void)
     expect(myrthakel_learner_save(3, 2, l.rounds, 2, l.sets, 2, l.values, 4, buffer, 50) == 106 && memcmp(buffer, saved, 50) == 0, "a table is saved as these bytes");
     l = heard_of_0;
     expect(myrthakel_learner_step(3, 2, vote, 36, l.rounds, 2, l.sets, 2, l.values, 4) == 105 && is_learner(&l, &decided), "a vote decides");
-    answer_is(&decided, 106, UINT64_C(0x0102030405060708), UINT64_C(0x090a0b0c0d0e0f10), "a decided value is answered");
+    answer_is(&decided, 106, HALVES, "a decided value is answered");
     answer_is(&heard, 107, 7, 8, "not yet is answered");
     hole_is(&decided, 106, 0, "a hole is found");
     hole_is(&heard, 108, 9, "no hole is found");
@@ -155,6 +182,12 @@ static void fresh_cases(void)
 int main(void)
 {
     fresh_cases();
+    packet_is(&request_fields, request, "a request's fields and bytes");
+    packet_is(&prepare_fields, prepare, "a prepare's fields and bytes");
+    packet_is(&promise_fields, promise_of_vote, "a promise's fields and bytes");
+    packet_is(&propose_fields, propose_of_backup, "a propose's fields and bytes");
+    packet_is(&vote_fields, vote, "a vote's fields and bytes");
+    null_is_refused();
     primary_is(request, 1, 101, propose_of_primary, 2, "a request is proposed");
     primary_is(null_request, 1, 5, null_request, 1, "a null request is refused by 5");
     acceptor_is(prepare, &never_voted, 102, promise_of_none, &promised, "a prepare is promised");

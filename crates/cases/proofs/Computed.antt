@@ -11,6 +11,7 @@ use Rattle.messages.specs.Table.{requestRow, prepareRow, promiseRow, proposeRow
 use Rattle.messages.specs.Message.{messageOf, fieldsOf, whenRequest, whenPrepare, whenPromise, whenPropose, whenVote}
 use Rattle.wire.specs.Packet.{fieldsIn, readPacket, packetWith, packetOf}
 use Rattle.player.specs.Step.{afterReading, afterPlacing, ruled, ruleAt, act, step}
+use Rattle.packets.specs.Packets.{packetWrite, fieldsRead, packetRead}
 use Rattle.quorum.specs.Settings.{acceptorsAllowed, instancesAllowed, allowed}
 use Rattle.quorum.specs.Quorum.{majority, bit, hasMember, withMember, within, reaches}
 use Rattle.columns.specs.Fresh.{setFresh}
@@ -38,8 +39,8 @@ use Rattle.cases.specs.WrittenOut.{WrittenOut}
 
 computed : WrittenOut × Orders × All cases
 unfolding ones numberAt if_then_else_ need_or_then_ ownerOf ownedOr0 ownedNot0 rank atMost isVoteUpTo placed requestRow prepareRow promiseRow proposeRow voteRow tableRow
-    keepsTable messageOf fieldsOf whenRequest whenPrepare whenPromise whenPropose whenVote fieldsIn readPacket packetWith packetOf afterReading afterPlacing ruled ruleAt act step
-    acceptorsAllowed instancesAllowed allowed majority bit hasMember withMember within reaches cellsFrom every
+    keepsTable messageOf fieldsOf whenRequest whenPrepare whenPromise whenPropose whenVote fieldsIn readPacket packetWith packetOf packetWrite fieldsRead packetRead
+    afterReading afterPlacing ruled ruleAt act step acceptorsAllowed instancesAllowed allowed majority bit hasMember withMember within reaches cellsFrom every
     setFresh primary.primaryFresh acceptorTables.acceptorFresh backupTables.backupFresh learnerTables.learnerFresh
     primaryRule.possible primaryRule.takeRequest primary.isAllowed primary.primary primary.primaryStep primary.primaryByReference primary.primaryRequest
     acceptorRule.possible acceptorRule.orderOf acceptorRule.obeying acceptorRule.obey acceptorTables.tablesAllowed acceptorTables.isAllowed acceptor.acceptor acceptor.acceptorStep
@@ -74,6 +75,10 @@ computed = (
     no-hole-found = refl;
     table-saved = refl;
     table-read = refl;
+    fields-written = refl;
+    fields-read = refl;
+    null-not-written = refl;
+    null-not-read = refl;
     null-refused = refl;
     best-refused = refl;
   },

@@ -12,6 +12,7 @@ use Rattle.basics.specs.Rounds.{theInstance, theRound, none}
 use Rattle.basics.specs.Values.{theValue, null}
 use Rattle.messages.specs.declared.Message.the-variants.{Request, Promise, Propose, Vote}
 use Rattle.wire.specs.Packet.{packetOf}
+use Rattle.packets.specs.Packets.{numbered, packetWrite, packetRead}
 use Rattle.quorum.specs.Settings.{settings}
 use Rattle.primary_rule.specs.Rule as primaryRule
 use Rattle.primary.specs.Primary.{primaryStep, primaryRequest}
@@ -310,11 +311,53 @@ readingBackOrder =
     ∷ readingBack 5 saved gives 17
     ∷ []
 
+-- ---- writing a packet: 1, 4, 5
+
+-- Of value v, over so many zeros.
+abbrev writing : (kind switch round length : ℕ) → ℕ
+writing kind switch round length = packetWrite (numbered kind switch 0 round (none .0) 0 0x2a) (replicate length 0) .answer
+
+abbrev writingOrder : List Row
+writingOrder =
+    -- 1 before 4: 35 bytes, type 5
+    writing 5 9 0 35 gives 1
+    -- 1 before 5: 37 bytes, switch number 65,536
+    ∷ writing 0 65536 0 37 gives 1
+    -- 4 before 5: type 5, switch number 65,536
+    ∷ writing 5 65536 0 36 gives 4
+    -- 4 before 5: type 256, a round that a request has not
+    ∷ writing 256 9 1 36 gives 4
+    -- 5: a request's switch number 65,536
+    ∷ writing 0 65536 0 36 gives 5
+    -- 5: a round that a request has not
+    ∷ writing 0 9 1 36 gives 5
+    ∷ []
+
+-- ---- reading a packet: 1 to 5
+
+abbrev readingInto : (packet : List ℕ) → ℕ
+readingInto packet = packetRead packet (numbered 11 12 13 14 15 16 17) .answer
+
+abbrev readingIntoOrder : List Row
+readingIntoOrder =
+    -- 1 before 2: 37 bytes, the mark from the second on
+    readingInto (0 ∷ request) gives 1
+    -- 2 before 3: another mark, version 2
+    ∷ readingInto (set (set request 0 0) 5 2) gives 2
+    -- 3 before 4: version 2, type 5
+    ∷ readingInto (set (set request 5 2) 3 5) gives 3
+    -- 4 before 5: type 5, round 4, which is nobody's
+    ∷ readingInto (set (set request 3 5) 15 4) gives 4
+    -- 5: round 4, which is nobody's
+    ∷ readingInto (set request 15 4) gives 5
+    ∷ []
+
 -- ---- all of them
 
 abbrev pub rows : List Row
 rows =
     primaryOrder bySlice ++ primaryOrder byReference ++ acceptorOrder ++ backupOrder ++ startOrder ++ learnerOrder ++ answerOrder ++ walkOrders ++ readingBackOrder
+    ++ writingOrder ++ readingIntoOrder
 
 -- Each call answers the paper's number.
 abbrev pub Orders : Type 0

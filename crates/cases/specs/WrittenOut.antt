@@ -4,12 +4,14 @@
 -- Assumes nothing.
 use Prim.Native.Nat.{ℕ}
 use mathlib.Core.Path.{_≡_}
-use mathlib.Core.List.{List, [], _∷_}
+use mathlib.Core.List.{List, [], _∷_, map}
 use lib.ListN.{replicate}
 use Rattle.basics.specs.Rounds.{theInstance}
 use Rattle.basics.specs.Values.{theValue}
 use Rattle.basics.specs.Outcome.{outcome, lent}
+use Rattle.messages.specs.declared.Fields.{Fields}
 use Rattle.player.specs.Step.{unchanged}
+use Rattle.packets.specs.Packets.{numbered, packetWrite, packetRead}
 use Rattle.quorum.specs.Settings.{settings}
 use Rattle.primary.specs.Primary.{primaryFresh, primaryStep}
 use Rattle.acceptor_tables.specs.Tables as acceptors
@@ -74,6 +76,22 @@ abbrev vote : List ℕ
 vote =
     82 ∷ 68 ∷ 69 ∷ 4 ∷ 0 ∷ 1 ∷ 0 ∷ 2 ∷ 0 ∷ 0 ∷ 0 ∷ 1 ∷ 1 ∷ 2 ∷ 3 ∷ 5 ∷ 1 ∷ 2 ∷ 3 ∷ 5
     ∷ 1 ∷ 2 ∷ 3 ∷ 4 ∷ 5 ∷ 6 ∷ 7 ∷ 8 ∷ 9 ∷ 10 ∷ 11 ∷ 12 ∷ 13 ∷ 14 ∷ 15 ∷ 16 ∷ []
+
+-- One of each type, and as numbers: type, switch number, instance, round, vote round, and the two halves of the value.
+abbrev packets : List (List ℕ)
+packets = request ∷ prepare ∷ promiseOfVote ∷ proposeOfBackup ∷ vote ∷ []
+
+abbrev packetFields : List Fields
+packetFields =
+    numbered 0 9 0 0 4_294_967_295 0x0102030405060708 0x090a0b0c0d0e0f10
+    ∷ numbered 1 1 1 16_909_061 4_294_967_295 0 0
+    ∷ numbered 2 0 1 16_909_061 0 0x0102030405060708 0x090a0b0c0d0e0f10
+    ∷ numbered 3 1 1 16_909_061 4_294_967_295 0x0102030405060708 0x090a0b0c0d0e0f10
+    ∷ numbered 4 2 1 16_909_061 16_909_061 0x0102030405060708 0x090a0b0c0d0e0f10
+    ∷ []
+
+abbrev someFields : Fields
+someFields = numbered 11 12 13 14 15 16 17
 
 -- ---- tables: cell 0 is fresh; a value is two numbers, of the bytes 1 to 8 and 9 to 16
 
@@ -159,6 +177,11 @@ pub record WrittenOut : Type 0 where
   pub no-hole-found : holes.answered 9 (holes.findHole (settings 3 2) heard) ≡ outcome 108 9
   pub table-saved : save (settings 3 2) (replicate 50 0) heard ≡ outcome 106 (lent saved heard)
   pub table-read : readSaved (settings 3 2) saved unheard ≡ outcome 106 (lent saved heard)
+  -- the fields of packets, there and back
+  pub fields-written : map (λ f. packetWrite f (replicate 36 0)) packetFields ≡ map (outcome 106) packets
+  pub fields-read : map (λ p. packetRead p someFields) packets ≡ map (outcome 106) packetFields
+  pub null-not-written : packetWrite (numbered 0 9 0 0 4_294_967_295 0 0) vote ≡ outcome 5 vote
+  pub null-not-read : packetRead nullRequest someFields ≡ outcome 5 someFields
   -- null is never requested: 5; with an empty set, best is none: 17
   pub null-refused : primaryStep (settings 3 2) nullRequest (1 ∷ []) ≡ unchanged nullRequest (1 ∷ []) 5
   pub best-refused : backupStep (settings 3 2) 1 promiseOfNone bestOfEmptySet ≡ unchanged promiseOfNone bestOfEmptySet 17
