@@ -90,13 +90,13 @@ static void expect_acceptors(int from, int to, uint32_t verdict, const message *
 
 static void expect_decided(uint32_t instance, uint32_t round, const char *value)
 {
-    message vote = {VOTE, instance, round, round, value};
+    message vote = {MYRTHAKEL_VOTE, instance, round, round, value};
     need(expect(await(LEARNER, MYRTHAKEL_DECIDED, &vote), "learner", "decided instance %u: %s", instance, shown(value)));
 }
 
 static void request(uint32_t instance, const char *value)
 {
-    message propose = {PROPOSE, instance, 0, MYRTHAKEL_NONE, value};
+    message propose = {MYRTHAKEL_PROPOSE, instance, 0, MYRTHAKEL_NONE, value};
     printf("  %-19sasked for %s\n", "client", shown(value));
     send_request(value);
     need(expect(await(PRIMARY, MYRTHAKEL_TO_ACCEPTORS, &propose), "primary", "proposed it for instance %u in round 0", instance));
@@ -104,7 +104,7 @@ static void request(uint32_t instance, const char *value)
 
 static void request_decided(uint32_t instance, const char *value)
 {
-    message vote = {VOTE, instance, 0, 0, value};
+    message vote = {MYRTHAKEL_VOTE, instance, 0, 0, value};
     request(instance, value);
     expect_acceptors(0, 2, MYRTHAKEL_TO_LEARNERS, &vote, "voted for it");
     expect_decided(instance, 0, value);
@@ -113,7 +113,7 @@ static void request_decided(uint32_t instance, const char *value)
 /* No acceptor gets this propose in time: one is lost, and two, which would be a majority, still travel. */
 static void request_not_heard(uint32_t instance, const char *value)
 {
-    message propose = {PROPOSE, instance, 0, MYRTHAKEL_NONE, value};
+    message propose = {MYRTHAKEL_PROPOSE, instance, 0, MYRTHAKEL_NONE, value};
     arrange(PROPOSE_WIRE + 0, instance, LOST);
     arrange(PROPOSE_WIRE + 1, instance, HELD_BACK);
     arrange(PROPOSE_WIRE + 2, instance, HELD_BACK);
@@ -126,7 +126,7 @@ static void request_not_heard(uint32_t instance, const char *value)
 /* Two acceptors vote, so the value is chosen; but one of the votes is lost, and the learner cannot know. */
 static void request_chosen_unknown(uint32_t instance, const char *value)
 {
-    message propose = {PROPOSE, instance, 0, MYRTHAKEL_NONE, value}, vote = {VOTE, instance, 0, 0, value};
+    message propose = {MYRTHAKEL_PROPOSE, instance, 0, MYRTHAKEL_NONE, value}, vote = {MYRTHAKEL_VOTE, instance, 0, 0, value};
     arrange(PROPOSE_WIRE + 2, instance, HELD_BACK);
     arrange(VOTE_WIRE + 1, instance, LOST);
     request(instance, value);
@@ -140,13 +140,13 @@ static void request_chosen_unknown(uint32_t instance, const char *value)
 static void take_over(uint32_t instance, const char *own, const char *found)
 {
     const char *proposed = found ? found : own;
-    message prepare = {PREPARE, instance, 1, MYRTHAKEL_NONE, NULL_VALUE}, propose = {PROPOSE, instance, 1, MYRTHAKEL_NONE, proposed};
-    message no_vote = {PROMISE, instance, 1, MYRTHAKEL_NONE, NULL_VALUE}, vote = {VOTE, instance, 1, 1, proposed};
+    message prepare = {MYRTHAKEL_PREPARE, instance, 1, MYRTHAKEL_NONE, NULL_VALUE}, propose = {MYRTHAKEL_PROPOSE, instance, 1, MYRTHAKEL_NONE, proposed};
+    message no_vote = {MYRTHAKEL_PROMISE, instance, 1, MYRTHAKEL_NONE, NULL_VALUE}, vote = {MYRTHAKEL_VOTE, instance, 1, 1, proposed};
     printf("  %-19sstarted backup 1 on instance %u with %s\n", "operator", instance, shown(own));
     send_command(BACKUP, START, instance, own);
     need(expect(await(BACKUP, MYRTHAKEL_TO_ACCEPTORS, &prepare), "backup 1", "asked for promises in round 1"));
     if (found) {
-        message with_vote = {PROMISE, instance, 1, 0, found};
+        message with_vote = {MYRTHAKEL_PROMISE, instance, 1, 0, found};
         expect_acceptors(0, 1, MYRTHAKEL_TO_LEADER, &with_vote, "promised, and told of the vote in round 0");
         expect_acceptors(2, 2, MYRTHAKEL_TO_LEADER, &no_vote, "promised: no vote so far");
     } else {
@@ -216,7 +216,7 @@ static void until_the_stop(void)
 
 static void from_the_stop(void)
 {
-    message old_hole = {PROPOSE, 2, 0, MYRTHAKEL_NONE, "pass 1003"}, old_chosen = {PROPOSE, 4, 0, MYRTHAKEL_NONE, "pass 1005"};
+    message old_hole = {MYRTHAKEL_PROPOSE, 2, 0, MYRTHAKEL_NONE, "pass 1003"}, old_chosen = {MYRTHAKEL_PROPOSE, 4, 0, MYRTHAKEL_NONE, "pass 1005"};
 
     heading("Backup 1 takes over by hand: the hole is filled with null");
     take_over(2, NULL_VALUE, NULL);

@@ -57,23 +57,29 @@ const char *player_name(int who)
     return name;
 }
 
-static void put_value(uint8_t *bytes, const char *value)
+/* A value as two numbers. */
+typedef struct {
+    uint64_t high, low;
+} halves;
+
+static halves halves_of(const char *value)
 {
-    memset(bytes, 0, MYRTHAKEL_VALUE_LENGTH);
+    uint8_t bytes[MYRTHAKEL_VALUE_LENGTH] = {0};
     memcpy(bytes, value, strnlen(value, MYRTHAKEL_VALUE_LENGTH));
+    return (halves){get_number(bytes, 8), get_number(bytes + 8, 8)};
 }
 
-/* A packet by hand, with switch number 0. */
-static void make_packet(uint8_t *packet, const message *from)
+/* A packet's fields. */
+typedef struct {
+    uint32_t kind, switch_number, instance, round, vote_round;
+    halves value;
+} fields;
+
+/* Answers whether the packet has any: a malformed one has none. */
+static int read_fields(const uint8_t *packet, fields *into)
 {
-    memcpy(packet, "RDE", 3);
-    packet[3] = from->type;
-    put_number(packet + 4, 2, 1);
-    put_number(packet + 6, 2, 0);
-    put_number(packet + 8, 4, from->instance);
-    put_number(packet + 12, 4, from->round);
-    put_number(packet + 16, 4, from->vote_round);
-    put_value(packet + 20, from->value);
+    return myrthakel_packet_read(packet, MYRTHAKEL_PACKET_LENGTH, &into->kind, &into->switch_number, &into->instance, &into->round, &into->vote_round,
+                                 &into->value.high, &into->value.low) == MYRTHAKEL_DONE;
 }
 
 /* --- Starting and ending --- */
@@ -226,10 +232,11 @@ static void hear_wire(int which)
     wire *over = &wires[which];
     if (recv(over->socket, packet, sizeof packet, MSG_DONTWAIT) != MYRTHAKEL_PACKET_LENGTH)
         return;
-    uint32_t instance = (uint32_t)get_number(packet + 8, 4), what = PASSED_ON;
-    if (instance < INSTANCES && over->arranged[instance] != 0) {
-        what = over->arranged[instance];
-        over->arranged[instance] = 0;
+    fields f;
+    uint32_t what = PASSED_ON;
+    if (read_fields(packet, &f) && f.instance < INSTANCES && over->arranged[f.instance] != 0) {
+        what = over->arranged[f.instance];
+        over->arranged[f.instance] = 0;
     }
     if (what == PASSED_ON)
         send_packet(over->socket, over->destination, packet);
@@ -267,9 +274,10 @@ void listen_for(int milliseconds)
 /* The switch number is left out: which of the acceptors' votes comes second and decides is chance. */
 static int is_message(const uint8_t *packet, const message *wanted)
 {
-    uint8_t made[MYRTHAKEL_PACKET_LENGTH];
-    make_packet(made, wanted);
-    return memcmp(packet, made, 6) == 0 && memcmp(packet + 8, made + 8, sizeof made - 8) == 0;
+    fields f;
+    halves value = halves_of(wanted->value);
+    return read_fields(packet, &f) && f.kind == wanted->kind && f.instance == wanted->instance && f.round == wanted->round
+           && f.vote_round == wanted->vote_round && f.value.high == value.high && f.value.low == value.low;
 }
 
 /* Takes an event that was heard before. Events are searched, not read in turn, so that the story does not hang on who happened to run first. */
@@ -330,8 +338,9 @@ void arrange(int which, uint32_t instance, uint32_t what)
 
 void release(uint32_t instance)
 {
+    fields f;
     for (int i = 0; i < event_count; i++)
-        if (events[i].verdict == HELD_BACK && get_number(events[i].packet + 8, 4) == instance) {
+        if (events[i].verdict == HELD_BACK && read_fields(events[i].packet, &f) && f.instance == instance) {
             const wire *over = &wires[events[i].source - PLAYERS];
             send_packet(over->socket, over->destination, events[i].packet);
         }
@@ -340,15 +349,16 @@ void release(uint32_t instance)
 void send_request(const char *value)
 {
     uint8_t packet[MYRTHAKEL_PACKET_LENGTH];
-    make_packet(packet, &(message){REQUEST, 0, 0, MYRTHAKEL_NONE, value});
-    send_packet(client, (uint16_t)(first + PRIMARY), packet);
+    halves asked = halves_of(value);
+    /* A request of null would be refused, and then nothing is sent. */
+    if (myrthakel_packet_write(MYRTHAKEL_REQUEST, 0, 0, 0, MYRTHAKEL_NONE, asked.high, asked.low, packet, sizeof packet) == MYRTHAKEL_DONE)
+        send_packet(client, (uint16_t)(first + PRIMARY), packet);
 }
 
 void send_command(int who, uint32_t kind, uint32_t instance, const char *value)
 {
-    uint8_t bytes[MYRTHAKEL_VALUE_LENGTH];
-    put_value(bytes, value);
-    command order = {.kind = kind, .instance = instance, .floor = 0, .value_high = get_number(bytes, 8), .value_low = get_number(bytes + 8, 8)};
+    halves own = halves_of(value);
+    command order = {.kind = kind, .instance = instance, .floor = 0, .value_high = own.high, .value_low = own.low};
     if (!players[who].gone)
         (void)send(players[who].control, &order, sizeof order, MSG_NOSIGNAL);
 }

@@ -4,15 +4,11 @@
 
 #include "players.h"
 
-/* The types of packets that the story speaks of. */
-enum { REQUEST = 0, PREPARE = 1, PROMISE = 2, PROPOSE = 3, VOTE = 4 };
-
 /* The null value is 16 zero bytes, so the empty text stands for it. */
 #define NULL_VALUE ""
 
 typedef struct {
-    uint8_t type;
-    uint32_t instance, round, vote_round;
+    uint32_t kind, instance, round, vote_round;
     const char *value; /* a text of at most 16 characters */
 } message;
 
