@@ -137,9 +137,9 @@ pub fn keeps_table(f: Fields) -> bool
     let kind = f.kind;
     match kind {
         0 => all_kept(request_row(f)),
-        1 => all_kept(prepare_row(f)),
+        1 => basics::owned_not_0(f.round) && all_kept(prepare_row(f)),
         2 => all_kept(promise_row(f)),
-        3 => all_kept(propose_row(f)),
+        3 => basics::owned_or_0(f.round) && all_kept(propose_row(f)),
         4 => all_kept(vote_row(f)),
         _ => false,
     }
