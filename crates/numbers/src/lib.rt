@@ -1,5 +1,6 @@
 // Big-endian numbers of 2, 4 and 8 bytes at a place of a byte slice. A number that does not lie within the slice is read as 0 and is not written.
-// Each is read and written least significant byte first, which is one load or store of the machine, and swapped by arithmetic, which is one instruction.
+// Each is read and written least significant byte first, which is one load or store of the machine, and swapped by arithmetic, which is one instruction;
+// but two bytes are stored one by one, which is shorter than a swap.
 ghost use mathlib.Core.Path.{_≡_};
 ghost use Prim.Native.Nat.{_+_, _≤_};
 ghost use lib.Dec.{leb};
@@ -38,7 +39,8 @@ pub fn write_u16(bytes: &mut [u8], at: usize, number: u16)
     ensures { λ r. ⌜ now (bytes .exit) ≡ withNumberAt (now (bytes .entry)) at 2 number ⌝ }
 {
     if lies_within(bytes.len(), at, 2) {
-        put_little_u16(bytes, at, swap_u16(number));
+        bytes[at] = (number / 256) as u8;
+        bytes[at + 1] = (number % 256) as u8;
     }
 }
 
