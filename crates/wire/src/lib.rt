@@ -19,6 +19,9 @@ pub enum Reading {
 
 pub const PACKET_LENGTH: usize = 36;
 
+// "RDE" as one number.
+const MARK: u32 = 5391429;
+
 const VERSION: u16 = 1;
 
 fn fields_in(packet: &[u8]) -> Fields
@@ -42,7 +45,7 @@ fn is_marked(packet: &[u8]) -> bool
     requires { ⌜ length (now packet) ≡ packetLength ⌝ }
     ensures { λ r. ⌜ r ≡ marked (now (packet .entry)) ⌝ }
 {
-    (packet[0] == b'R') & (packet[1] == b'D') & (packet[2] == b'E')
+    numbers::read_u32(packet, 0) / 256 == MARK
 }
 
 pub fn read_packet(packet: &[u8]) -> Reading
@@ -82,10 +85,7 @@ fn put_mark(packet: &mut [u8], kind: u8)
     requires { ⌜ length (now packet) ≡ packetLength ⌝ }
     ensures { λ r. ⌜ now (packet .exit) ≡ sets (now (packet .entry)) 0 (82 ∷ 68 ∷ 69 ∷ kind ∷ []) ⌝ }
 {
-    packet[0] = b'R';
-    packet[1] = b'D';
-    packet[2] = b'E';
-    packet[3] = kind;
+    numbers::write_u32(packet, 0, MARK * 256 + (kind as u32));
 }
 
 fn put_fields(packet: &mut [u8], f: Fields)
