@@ -2,7 +2,7 @@
 -- Assumes nothing.
 use borrow.Author.Tests.{ne-eqb}
 use Rattle.basics.specs.Ladder.{if_then_else_}
-use Rattle.messages.specs.Table.{prepareRow, proposeRow, tableRow, keepsTable}
+use Rattle.messages.specs.Table.{prepareRow, proposeRow, voteRow, tableRow, keepsTable}
 use mathlib.Core.Bool.{Bool, true, false, _&&_}
 use mathlib.Core.Path.{_≡_, refl, sym, _∙_}
 use borrow.Author.Needs.{needs}
@@ -38,6 +38,9 @@ propose-row-requires c κs = search needs
 
 all-kept-requires-4 : tie.Need-all-kept-requires-4
 all-kept-requires-4 c κs = search needs
+
+owned-or-0-requires-2 : tie.Need-owned-or-0-requires-2
+owned-or-0-requires-2 c κs = search needs
 
 vote-row-requires : tie.Need-vote-row-requires
 vote-row-requires c κs = search needs
@@ -76,11 +79,15 @@ returns-6 c = c .if2 .left ∙ rw (c .before .before .match .keys4, sym (c .befo
 
 returns-7 : tie.Need-returns-7
 unfolding keepsTable tableRow if_then_else_
-returns-7 c = rw (c .all-kept5 .ensures, c .before .vote-row .ensures, c .before .before .match .keys5)
+returns-7 c = rw (c .all-kept5 .ensures, c .before .vote-row .ensures, c .before .before .before .before .match .keys5)
 
 returns-8 : tie.Need-returns-8
+unfolding keepsTable tableRow voteRow if_then_else_
+returns-8 c = c .if3 .left ∙ rw (c .before .before .match .keys5, sym (c .before .owned-or-02 .ensures) ∙ c .if3 .left, and-false)
+
+returns-9 : tie.Need-returns-9
 unfolding keepsTable tableRow if_then_else_
-returns-8 c =
+returns-9 c =
     let other = c .match .rest in
     simp (ne-eqb _ _ (other .0 .0 .0 .0 .1), ne-eqb _ _ (other .0 .0 .0 .1), ne-eqb _ _ (other .0 .0 .1), ne-eqb _ _ (other .0 .1), ne-eqb _ _ (other .1))
 
@@ -98,6 +105,7 @@ keeps-table-spec =
     owned-or-0-requires
     propose-row-requires
     all-kept-requires-4
+    owned-or-0-requires-2
     vote-row-requires
     all-kept-requires-5
     returns
@@ -107,4 +115,5 @@ keeps-table-spec =
     returns-5
     returns-6
     returns-7
-    returns-8)
+    returns-8
+    returns-9)
