@@ -52,7 +52,7 @@ fn is_heard(acceptors: u32, cell: Cell) -> bool
 pub fn is_possible(acceptors: u32, cell: Cell) -> bool
     ensures { λ r. ⌜ r ≡ possible acceptors cell ⌝ }
 {
-    is_fresh(cell) | is_heard(acceptors, cell)
+    is_fresh(cell) || is_heard(acceptors, cell)
 }
 
 // The cell of a round and value with one more voter, whose set was this before.
