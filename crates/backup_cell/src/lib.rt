@@ -55,15 +55,15 @@ fn phase_fits(acceptors: u32, phase: u8, set: u8) -> bool
 fn is_started(acceptors: u32, own: u16, cell: Cell) -> bool
     ensures { λ r. ⌜ r ≡ isStarted acceptors own cell ⌝ }
 {
-    (basics::owner(cell.round) == own)
-        & quorum::is_within(acceptors, cell.set)
-        & basics::is_vote_up_to(cell.round, cell.best_vote_round, cell.best_value)
-        & phase_fits(acceptors, cell.phase, cell.set)
-        & (!(cell.set == 0) | basics::is_none(cell.best_vote_round))
+    basics::owner(cell.round) == own
+        && (quorum::is_within(acceptors, cell.set)
+            & basics::is_vote_up_to(cell.round, cell.best_vote_round, cell.best_value)
+            & phase_fits(acceptors, cell.phase, cell.set)
+            & (!(cell.set == 0) | basics::is_none(cell.best_vote_round)))
 }
 
 pub fn is_possible(acceptors: u32, own: u16, cell: Cell) -> bool
     ensures { λ r. ⌜ r ≡ possible acceptors own cell ⌝ }
 {
-    is_fresh(cell) | is_started(acceptors, own, cell)
+    is_fresh(cell) || is_started(acceptors, own, cell)
 }

@@ -1,6 +1,8 @@
 -- `backup_cell::is_started` meets its contract: each test is what its call ensures.
 -- Assumes nothing.
 use Rattle.backup_cell.specs.Cell.{isStarted}
+use mathlib.Core.Path.{sym, _∙_}
+use borrow.Author.Tests.{eq-eqb, ne-eqb}
 use borrow.Author.Needs.{needs}
 use Rattle.backup_cell.proofs.is_started.Statement.{statement}
 use Rattle.backup_cell.proofs.is_started.Tie as tie
@@ -24,7 +26,13 @@ returns : tie.Need-returns
 unfolding isStarted
 returns c =
     let fits = c .before .before in
-    rw (fits .before .before .before .owner .ensures, fits .before .before .is-within .ensures, fits .before .is-vote-up-to .ensures, fits .phase-fits .ensures, c .is-none .ensures)
+    let within = fits .before .before in
+    let owned = sym (within .before .before .owner .ensures) ∙ within .before .if1 .taken in
+    rw (eq-eqb _ _ owned, within .is-within .ensures, fits .before .is-vote-up-to .ensures, fits .phase-fits .ensures, c .is-none .ensures)
+
+returns-2 : tie.Need-returns-2
+unfolding isStarted
+returns-2 c = rw (← c .before .owner .ensures, ne-eqb _ _ (c .if1 .left))
 
 pub is-started-spec : {M : Type 1} → statement M
 is-started-spec =
@@ -35,4 +43,5 @@ is-started-spec =
     is-vote-up-to-requires
     phase-fits-requires
     is-none-requires
-    returns)
+    returns
+    returns-2)
