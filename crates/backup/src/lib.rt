@@ -19,7 +19,7 @@ use messages::Message;
 use quorum::Settings;
 use wire::Reading;
 
-// What a rule came to is stored and sent, for both calls.
+// What a promise came to is stored and sent.
 fn carry_out(
     answer: Ruled,
     packet: &mut [u8],
@@ -66,7 +66,59 @@ fn carry_out(
                 cell,
             );
             wire::put_message(packet, message);
-            basics::verdict_number(Verdict::ToAcceptors)
+            basics::verdict_number(Verdict::ToAcceptors) // a propose
+        }
+    }
+}
+
+// The same of a start, in a copy: a function with two callers is not inlined, and a step took half as many instructions again when it was one.
+fn carry_out_start(
+    answer: Ruled,
+    packet: &mut [u8],
+    rounds: &mut [u32],
+    phases: &mut [u8],
+    sets: &mut [u8],
+    best_vote_rounds: &mut [u32],
+    best_values: &mut [u64],
+    own_values: &mut [u64],
+    index: usize,
+) -> u32
+    requires { ⌜ length (now packet) ≡ packetLength ⌝ }
+    ensures { λ r.
+        let before = tables (now (rounds .entry)) (now (phases .entry)) (now (sets .entry)) (now («best_vote_rounds» .entry)) (now («best_values» .entry))
+        (now («own_values» .entry)) in
+        let after = tables (now (rounds .exit)) (now (phases .exit)) (now (sets .exit)) (now («best_vote_rounds» .exit)) (now («best_values» .exit))
+        (now («own_values» .exit)) in
+        ⌜ outcome r (lent (now (packet .exit)) after) ≡ ruled (now (packet .entry)) before (withCell before index) (rulingOf answer) ⌝ }
+{
+    match answer {
+        Ruled::Refused(number) => number,
+        Ruled::Held { cell } => {
+            backup_tables::store_cell(
+                rounds,
+                phases,
+                sets,
+                best_vote_rounds,
+                best_values,
+                own_values,
+                index,
+                cell,
+            );
+            basics::verdict_number(Verdict::Hold)
+        }
+        Ruled::Sent { cell, message } => {
+            backup_tables::store_cell(
+                rounds,
+                phases,
+                sets,
+                best_vote_rounds,
+                best_values,
+                own_values,
+                index,
+                cell,
+            );
+            wire::put_message(packet, message);
+            basics::verdict_number(Verdict::ToAcceptors) // a prepare
         }
     }
 }
@@ -143,7 +195,7 @@ pub extern "C" fn myrthakel_backup_start(
         floor,
         value,
     );
-    carry_out(
+    carry_out_start(
         answer,
         buffer,
         rounds,

@@ -62,8 +62,8 @@ cast-start c =
 start-requires : tie.Need-start-requires
 start-requires c κs = search needs
 
-carry-out-requires : tie.Need-carry-out-requires
-carry-out-requires c κs = search needs
+carry-out-start-requires : tie.Need-carry-out-start-requires
+carry-out-start-requires c κs = search needs
 
 same-length : tie.Need-same-length
 same-length c = search needs
@@ -95,7 +95,7 @@ returns-4 c =
     let start = allowed .before .before .before .before .before .before .before .before .before in
     start-there _ _ _ (lent-tables start) _ (allowed .before .is-allowed .ensures) (allowed .if1 .left)
     _ _ _ (placed .before .before .before .if2 .left) _ (placed .before .before .place-of .ensures)
-    _ _ (started .start .result) _ (placed .place .given .1) (started .before .cell-at .ensures) (started .start .ensures) (carried .carry-out .ensures)
+    _ _ (started .start .result) _ (placed .place .given .1) (started .before .cell-at .ensures) (started .start .ensures) (carried .carry-out-start .ensures)
 
 pub myrthakel-backup-start-spec : {M : Type 1} → statement M
 myrthakel-backup-start-spec =
@@ -112,7 +112,7 @@ myrthakel-backup-start-spec =
     cell-at-requires
     cast-start
     start-requires
-    carry-out-requires
+    carry-out-start-requires
     same-length
     same-length-2
     same-length-3
