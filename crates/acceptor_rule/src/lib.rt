@@ -13,11 +13,12 @@ pub struct Cell {
     pub value: Value,
 }
 
-// A prepare or a propose: what it asks of an acceptor.
+// A prepare or a propose: what it asks of an acceptor. Instance and round stand apart, since the compiler moves two neighbours as one number and then has
+// to part them.
 pub struct Order {
     pub instance: Instance,
-    pub round: Round,
     pub asked: Asked,
+    pub round: Round,
 }
 
 pub enum Asked {
