@@ -26,6 +26,7 @@ use Rattle.player.specs.Step.{afterReading, afterPlacing, ruled, ruleAt, act, s
 use Rattle.quorum.specs.Settings.{acceptorsAllowed, instancesAllowed, allowed}
 use Rattle.quorum.specs.Quorum.{majority, bit, hasMember, withMember, within, reaches}
 use Rattle.quorum.specs.Voters.{newest, older}
+use Rattle.columns.specs.Fresh.{setFresh}
 use Rattle.columns.specs.Walks.{cellsFrom, every}
 use Rattle.primary_rule.specs.Rule as primaryRule
 use Rattle.primary.specs.Primary as primary
@@ -72,6 +73,7 @@ both : Computed × Slips
 unfolding ones numberAt if_then_else_ need_or_then_ ownerOf ownedOr0 ownedNot0 rank atMost requestRow prepareRow promiseRow proposeRow voteRow tableRow keepsTable isVoteUpTo
     messageOf fieldsOf whenRequest whenPrepare whenPromise whenPropose whenVote fieldsIn readPacket packetWith packetOf placed afterReading afterPlacing ruled ruleAt act step saysSend
     acceptorsAllowed instancesAllowed allowed majority bit hasMember withMember within reaches put sameBytes wasSent isAcceptor sentBy plays played
+    setFresh primary.primaryFresh acceptorTables.acceptorFresh backupTables.backupFresh learnerTables.learnerFresh
     primaryRule.possible primaryRule.takeRequest primary.isAllowed primary.primary primary.primaryStep primary.primaryByReference primary.primaryRequest
     acceptorRule.possible acceptorRule.orderOf acceptorRule.obeying acceptorRule.obey acceptorTables.tablesAllowed acceptorTables.isAllowed acceptor.acceptor acceptor.acceptorStep
     backupCell.isFresh backupCell.phaseFits backupCell.isStarted backupCell.possible backupRule.nextRound backupRule.start backupRule.counting backupRule.chosen

@@ -17,6 +17,7 @@ use Rattle.messages.specs.Message.{whenPromise, whenPropose, whenVote}
 use Rattle.wire.specs.Packet.{packetOf}
 use Rattle.player.specs.Step.{Ruling, refused, Player, step}
 use Rattle.quorum.specs.Quorum.{size}
+use Rattle.primary.specs.Primary.{primaryFresh}
 use Rattle.acceptor_rule.specs.declared.Cell as acceptorCells
 use Rattle.acceptor_rule.specs.Rule as acceptorRule
 use Rattle.acceptor_tables.specs.Tables as acceptorTables
@@ -75,12 +76,12 @@ learnerBy rule = record {
 abbrev pub leaving : {Tables : Type 0} → Tables → Outcome (Lent Tables)
 leaving tables = outcome hold (lent [] tables)
 
--- One player's tables are those it had at the beginning.
+-- One player's tables are those it had at the beginning: the call that set them fresh is made again.
 abbrev pub freshAgain : Caller → Boxes → Boxes
-freshAgain the-primary w = afterPrimary w [] (leaving (0 ∷ []))
-freshAgain (acceptor own) w = afterAcceptor w own (leaving (acceptorTables.freshTables 2))
-freshAgain (backup own) w = afterBackup w own (leaving (backupTables.freshTables 2))
-freshAgain (learner which) w = afterLearner w which (leaving (learnerTables.freshTables 2))
+freshAgain the-primary w = afterPrimary w [] (leaving (primaryFresh three (w .primary) .left))
+freshAgain (acceptor own) w = afterAcceptor w own (leaving (acceptorTables.acceptorFresh three (w .acceptor own) .left))
+freshAgain (backup own) w = afterBackup w own (leaving (backupTables.backupFresh three (w .backup own) .left))
+freshAgain (learner which) w = afterLearner w which (leaving (learnerTables.learnerFresh three (w .learner which) .left))
 
 abbrev pub afterSlip : Slip → Boxes → Boxes
 afterSlip (acceptor-slips rule own m) w = afterAcceptor w own (step (acceptorBy rule own) (packetOf m) (w .acceptor own))
