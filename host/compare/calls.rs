@@ -3,9 +3,16 @@
 
 use crate::tables::*;
 
+#[repr(C)]
+struct Primary {
+    next: u32,
+}
+
 #[rustfmt::skip]
 extern "C" {
     fn myrthakel_primary_step(acceptors: u32, instances: u32, packet: *mut u8, packet_length: usize, next: *mut u32, next_length: usize) -> u32;
+
+    fn myrthakel_primary_request(acceptors: u32, instances: u32, packet: *mut u8, packet_length: usize, primary: *mut Primary) -> u32;
 
     fn myrthakel_acceptor_step(
         acceptors: u32, instances: u32, own: u32,
@@ -91,6 +98,15 @@ extern "C" {
 pub fn primary_step(settings: Settings, packet: &mut [u8], next: &mut [u32]) -> u32 {
     let Settings { acceptors, instances } = settings;
     unsafe { myrthakel_primary_step(acceptors, instances, packet.as_mut_ptr(), packet.len(), next.as_mut_ptr(), next.len()) }
+}
+
+pub fn primary_request(settings: Settings, packet: &mut [u8], next: &mut u32) -> u32 {
+    let Settings { acceptors, instances } = settings;
+    // a record of its own in memory with borders
+    let mut primary = Box::new(Primary { next: *next });
+    let answer = unsafe { myrthakel_primary_request(acceptors, instances, packet.as_mut_ptr(), packet.len(), &mut *primary) };
+    *next = primary.next;
+    answer
 }
 
 #[rustfmt::skip]

@@ -1,14 +1,20 @@
 //! Calls the archives and the model on the same inputs and compares the answer and everything lent, byte for byte.
-//! Usage: compare COUNT SEED. The last line is 'N passed, M failed', where N counts the calls that agreed.
+//! Usage: compare COUNT SEED. Each call is compared on its sweeps and COUNT times its share in scenes by chance, on inputs of its own stream. Then come
+//! the digests, of each call and of all, and the last line is 'N passed, M failed', where N counts the calls that agreed.
 
 mod borders;
+mod both;
 mod calls;
+mod digest;
 mod inputs;
 mod model;
 mod random;
+mod scenes;
+mod sweeps;
 mod tables;
 
-use inputs::{Cell, Inputs};
+use digest::{Content, Digest};
+use inputs::Inputs;
 use std::collections::BTreeMap;
 use std::fmt::Debug;
 use std::time::{Duration, Instant};
@@ -17,116 +23,104 @@ use tables::*;
 #[global_allocator]
 static MEMORY: borders::Bordered = borders::Bordered;
 
-/// What the paper lets each call answer: its refusals, then its verdicts.
-const ANSWERS: [(&str, &[u32]); 10] = [
-    ("primary_step", &[7, 1, 2, 3, 4, 5, 6, 17, 12, TO_ACCEPTORS]),
-    ("acceptor_step", &[7, 1, 2, 3, 4, 5, 6, 8, 17, 10, TO_LEADER, TO_LEARNERS]),
-    ("backup_start", &[7, 1, 8, 17, 16, TO_ACCEPTORS]),
-    ("backup_step", &[7, 1, 2, 3, 4, 5, 6, 8, 9, 17, 11, 15, HOLD, TO_ACCEPTORS]),
-    ("learner_step", &[7, 1, 2, 3, 4, 5, 6, 8, 9, 17, 14, 10, 13, 15, HOLD, DECIDED]),
-    ("learner_answer", &[7, 8, 17, NOT_YET, DONE]),
-    ("learner_deliver", &[7, 1, 17, DONE]),
-    ("learner_first_hole", &[7, 17, NO_HOLE, DONE]),
-    ("learner_save", &[7, 1, 17, DONE]),
-    ("learner_read_saved", &[7, 1, 2, 3, 17, DONE]),
+/// An exported call: how often it is compared beside others, what the paper lets it answer (its refusals, then its verdicts), the kinds of input that are to
+/// come up, each with how many numbers of it from 0, and where the inputs come from.
+struct Call {
+    name: &'static str,
+    share: u64,
+    answers: &'static [u32],
+    kinds: &'static [(&'static str, u32)],
+    sweep: fn(&mut Comparison),
+    scene: fn(&mut Comparison, Settings),
+}
+
+const PRIMARY_ANSWERS: &[u32] = &[7, 1, 2, 3, 4, 5, 6, 17, 12, TO_ACCEPTORS];
+const PRIMARY_KINDS: &[(&str, u32)] = &[(both::M, 256), (both::NEXT_WITHIN, 1), (both::NEXT_FAR, 1), (both::PACKET_TOP_BIT, 1)];
+const BACKUP_KINDS: &[(&str, u32)] = &[(both::M, 256), (both::PHASE, 256), (both::SET, 256), (both::CELL_TOP_BIT, 1)];
+const LEARNER_KINDS: &[(&str, u32)] = &[(both::M, 256), (both::SET, 256), (both::CELL_TOP_BIT, 1)];
+
+#[rustfmt::skip]
+const CALLS: &[Call] = &[
+    Call {
+        name: "primary_step", share: 1, answers: PRIMARY_ANSWERS, kinds: PRIMARY_KINDS,
+        sweep: sweeps::primary_step, scene: scenes::primary_step,
+    },
+    Call {
+        name: "primary_request", share: 1, answers: PRIMARY_ANSWERS, kinds: PRIMARY_KINDS,
+        sweep: sweeps::primary_request, scene: scenes::primary_request,
+    },
+    Call {
+        name: "acceptor_step", share: 3, answers: &[7, 1, 2, 3, 4, 5, 6, 8, 17, 10, TO_LEADER, TO_LEARNERS],
+        kinds: &[(both::M, 256), (both::PACKET_TOP_BIT, 1), (both::CELL_TOP_BIT, 1)],
+        sweep: sweeps::acceptor_step, scene: scenes::acceptor_step,
+    },
+    Call {
+        name: "backup_start", share: 1, answers: &[7, 1, 8, 17, 16, TO_ACCEPTORS], kinds: BACKUP_KINDS,
+        sweep: sweeps::backup_start, scene: scenes::backup_start,
+    },
+    Call {
+        name: "backup_step", share: 3, answers: &[7, 1, 2, 3, 4, 5, 6, 8, 9, 17, 11, 15, HOLD, TO_ACCEPTORS], kinds: BACKUP_KINDS,
+        sweep: sweeps::backup_step, scene: scenes::backup_step,
+    },
+    Call {
+        name: "learner_step", share: 4, answers: &[7, 1, 2, 3, 4, 5, 6, 8, 9, 17, 14, 10, 13, 15, HOLD, DECIDED], kinds: LEARNER_KINDS,
+        sweep: sweeps::learner_step, scene: scenes::learner_step,
+    },
+    Call {
+        name: "learner_answer", share: 1, answers: &[7, 8, 17, NOT_YET, DONE], kinds: LEARNER_KINDS,
+        sweep: sweeps::learner_answer, scene: scenes::learner_answer,
+    },
+    Call {
+        name: "learner_deliver", share: 1, answers: &[7, 1, 17, DONE], kinds: LEARNER_KINDS,
+        sweep: sweeps::learner_deliver, scene: scenes::learner_deliver,
+    },
+    Call {
+        name: "learner_first_hole", share: 1, answers: &[7, 17, NO_HOLE, DONE], kinds: LEARNER_KINDS,
+        sweep: sweeps::learner_first_hole, scene: scenes::learner_first_hole,
+    },
+    Call {
+        name: "learner_save", share: 1, answers: &[7, 1, 17, DONE], kinds: LEARNER_KINDS,
+        sweep: sweeps::learner_save, scene: scenes::learner_save,
+    },
+    Call {
+        name: "learner_read_saved", share: 1, answers: &[7, 1, 2, 3, 17, DONE], kinds: LEARNER_KINDS,
+        sweep: sweeps::learner_read_saved, scene: scenes::learner_read_saved,
+    },
 ];
 
-/// Each table of a player by its number, so that one alone can be given a wrong length.
-trait Tables: Clone + PartialEq + Debug {
-    const COUNT: usize;
-    fn fresh(instances: usize) -> Self;
-    fn resize(&mut self, table: usize, length: impl FnOnce(usize) -> usize);
-}
-
-fn resize<T: Copy + Default>(table: &mut Vec<T>, length: impl FnOnce(usize) -> usize) {
-    let length = length(table.len());
-    table.resize(length, T::default());
-}
-
-impl Tables for Vec<u32> {
-    const COUNT: usize = 1;
-    fn fresh(_: usize) -> Self {
-        vec![0]
-    }
-    fn resize(&mut self, _: usize, length: impl FnOnce(usize) -> usize) {
-        resize(self, length);
-    }
-}
-
-impl Tables for AcceptorTables {
-    const COUNT: usize = 3;
-    fn fresh(instances: usize) -> Self {
-        AcceptorTables::fresh(instances)
-    }
-    fn resize(&mut self, table: usize, length: impl FnOnce(usize) -> usize) {
-        match table {
-            0 => resize(&mut self.rounds, length),
-            1 => resize(&mut self.vote_rounds, length),
-            _ => resize(&mut self.values, length),
-        }
-    }
-}
-
-impl Tables for BackupTables {
-    const COUNT: usize = 6;
-    fn fresh(instances: usize) -> Self {
-        BackupTables::fresh(instances)
-    }
-    fn resize(&mut self, table: usize, length: impl FnOnce(usize) -> usize) {
-        match table {
-            0 => resize(&mut self.rounds, length),
-            1 => resize(&mut self.phases, length),
-            2 => resize(&mut self.sets, length),
-            3 => resize(&mut self.best_vote_rounds, length),
-            4 => resize(&mut self.best_values, length),
-            _ => resize(&mut self.own_values, length),
-        }
-    }
-}
-
-impl Tables for LearnerTables {
-    const COUNT: usize = 3;
-    fn fresh(instances: usize) -> Self {
-        LearnerTables::fresh(instances)
-    }
-    fn resize(&mut self, table: usize, length: impl FnOnce(usize) -> usize) {
-        match table {
-            0 => resize(&mut self.rounds, length),
-            1 => resize(&mut self.sets, length),
-            _ => resize(&mut self.values, length),
-        }
-    }
-}
-
-/// The cell of an instance, unless it is beyond the tables.
-fn cell(rounds: &[u32], values: &[u64], instance: u32) -> Option<Cell> {
-    let instance = instance as usize;
-    (instance < rounds.len() && instance < values.len() / 2).then(|| (rounds[instance], value_of(values, instance)))
-}
-
-struct Comparison {
-    inputs: Inputs,
+/// One call in comparison. Its inputs are a stream of its own, so that its digest stays when other calls come.
+pub struct Comparison {
+    call: &'static str,
+    pub inputs: Inputs,
     compared: u64,
-    counts: BTreeMap<(&'static str, u32), u64>,
+    answers: BTreeMap<u32, u64>,
+    kinds: BTreeMap<(&'static str, u32), u64>,
+    digest: Digest,
 }
 
 impl Comparison {
-    /// One call on both sides; gives back what the model left.
-    fn compare<T: Clone + PartialEq + Debug>(
+    fn new(call: &'static str, seed: u64) -> Self {
+        let mut name = Digest::new();
+        name.bytes(call.as_bytes());
+        let inputs = Inputs::new(seed ^ name.number());
+        Comparison { call, inputs, compared: 0, answers: BTreeMap::new(), kinds: BTreeMap::new(), digest: Digest::new() }
+    }
+
+    /// One call on both sides; gives the answer and what it left.
+    pub fn compare<T: Content + Clone + PartialEq + Debug>(
         &mut self,
-        call: &'static str,
-        input: T,
+        input: &T,
         archive: impl FnOnce(&mut T) -> u32,
         model: impl FnOnce(&mut T) -> model::Answer,
-    ) -> T {
+    ) -> (u32, T) {
         let mut by_archive = input.clone();
         let mut by_model = input.clone();
         let answer = archive(&mut by_archive);
         let result = model(&mut by_model);
         let expected = result.unwrap_or_else(|refusal| refusal);
-        let unchanged = result.is_ok() || by_model == input;
+        let unchanged = result.is_ok() || by_model == *input;
         if answer != expected || by_archive != by_model || !unchanged {
-            println!("FAILED: {} after {} calls that agreed", call, self.compared);
+            println!("FAILED: {} after {} calls that agreed", self.call, self.compared);
             println!("input   {:x?}", input);
             println!("archive {} {:x?}", answer, by_archive);
             println!("model   {} {:x?}", expected, by_model);
@@ -134,251 +128,66 @@ impl Comparison {
             std::process::exit(1);
         }
         self.compared += 1;
-        *self.counts.entry((call, expected)).or_insert(0) += 1;
-        by_model
+        *self.answers.entry(answer).or_insert(0) += 1;
+        answer.add_to(&mut self.digest);
+        by_archive.add_to(&mut self.digest);
+        (answer, by_archive)
     }
 
-    /// Settings or sizes that refusal 7 is for. Which of them is wrong is left to chance.
-    fn spoil<T: Tables>(&mut self, settings: &mut Settings, tables: &mut T) {
-        match self.inputs.random.below(4) {
-            0 => settings.acceptors = self.inputs.wrong_acceptors(),
-            1 => settings.instances = self.inputs.wrong_instances(settings.instances),
-            2 => {
-                settings.instances = self.inputs.random.pick(&[0, 1025, 1026, 2048]);
-                *tables = T::fresh(settings.instances as usize);
-            }
-            _ => tables.resize(self.inputs.random.below(T::COUNT), |right| self.inputs.wrong_length(right)),
+    /// Counts an input of a kind, by its number where the kind has several.
+    pub fn saw(&mut self, kind: &'static str, number: u32) {
+        *self.kinds.entry((kind, number)).or_insert(0) += 1;
+    }
+
+    /// Prints how often the call gave each answer and had each kind of input (the rarest of its numbers), and counts what ought to have come up and did not, or
+    /// the other way round.
+    fn report(&self, call: &Call) -> usize {
+        let seen = |answer: &u32| *self.answers.get(answer).unwrap_or(&0);
+        let had = |kind: &str, numbers: u32| (0..numbers).map(|number| *self.kinds.get(&(kind, number)).unwrap_or(&0)).min().unwrap_or(0);
+        let answers: Vec<String> = call.answers.iter().map(|answer| format!("{}: {}", answer, seen(answer))).collect();
+        let kinds: Vec<String> = call.kinds.iter().map(|(kind, numbers)| format!("{}: {}", kind, had(kind, *numbers))).collect();
+        println!("{} {}; {}", self.call, answers.join(", "), kinds.join(", "));
+        let mut faults = Vec::new();
+        let missing = call.answers.iter().filter(|answer| seen(answer) == 0);
+        faults.extend(missing.map(|answer| format!("never answered {}", answer)));
+        let beyond = self.answers.keys().filter(|answer| !call.answers.contains(answer));
+        faults.extend(beyond.map(|answer| format!("answered {}, which the paper does not let it", answer)));
+        for (kind, numbers) in call.kinds {
+            let missing = (0..*numbers).filter(|number| !self.kinds.contains_key(&(kind, *number)));
+            faults.extend(missing.map(|number| format!("never had {}: {}", kind, number)));
         }
-    }
-
-    fn primary_scene(&mut self, settings: Settings) {
-        let instances = settings.instances;
-        let mut next = vec![self.inputs.random.pick(&[0, 0, 0, instances - 1, instances, instances + 1, NONE])];
-        for _ in 0..12 {
-            let packet = self.inputs.packet(&[model::REQUEST], settings, 0, None);
-            let mut input = (settings, packet, next.clone());
-            let spoiled = self.inputs.random.chance(8);
-            if spoiled {
-                self.spoil(&mut input.0, &mut input.2);
-            }
-            let after = self.compare(
-                "primary_step",
-                input,
-                |lent| calls::primary_step(lent.0, &mut lent.1, &mut lent.2),
-                |lent| model::primary_step(lent.0, &mut lent.1, &mut lent.2),
-            );
-            if !spoiled {
-                next = after.2;
-            }
-        }
-    }
-
-    fn acceptor_scene(&mut self, settings: Settings) {
-        let own = self.inputs.random.below(settings.acceptors as usize) as u32;
-        let mut tables = self.inputs.acceptor_tables(settings);
-        for _ in 0..24 {
-            let instance = self.inputs.instance(settings);
-            let cell = cell(&tables.rounds, &tables.values, instance);
-            let packet = self.inputs.packet(&[model::PREPARE, model::PROPOSE], settings, instance, cell);
-            let mut input = (settings, own, packet, tables.clone());
-            let spoiled = self.inputs.random.chance(8);
-            if spoiled && self.inputs.random.chance(25) {
-                input.1 = self.inputs.wrong_acceptor(settings);
-            } else if spoiled {
-                self.spoil(&mut input.0, &mut input.3);
-            }
-            let after = self.compare(
-                "acceptor_step",
-                input,
-                |lent| calls::acceptor_step(lent.0, lent.1, &mut lent.2, &mut lent.3),
-                |lent| model::acceptor_step(lent.0, lent.1, &mut lent.2, &mut lent.3),
-            );
-            if !spoiled {
-                tables = after.3;
-            }
-        }
-    }
-
-    fn backup_scene(&mut self, settings: Settings) {
-        let own = 1 + self.inputs.random.below(3) as u32;
-        let mut tables = self.inputs.backup_tables(settings, own);
-        for _ in 0..32 {
-            let mut input = (settings, own, tables.clone());
-            let spoiled = self.inputs.random.chance(8);
-            if spoiled && self.inputs.random.chance(40) {
-                input.1 = self.inputs.other_backup();
-            } else if spoiled {
-                self.spoil(&mut input.0, &mut input.2);
-            }
-            let instance = self.inputs.instance(settings);
-            let cell = cell(&tables.rounds, &tables.own_values, instance);
-            let after = if self.inputs.random.chance(25) {
-                self.backup_start(input, instance, cell)
-            } else {
-                let packet = self.inputs.packet(&[model::PROMISE], settings, instance, cell);
-                self.backup_step(input, packet)
-            };
-            if !spoiled {
-                tables = after;
-            }
-        }
-    }
-
-    fn backup_start(&mut self, (settings, own, tables): (Settings, u32, BackupTables), instance: u32, cell: Option<Cell>) -> BackupTables {
-        let start = self.inputs.start(instance, cell);
-        let buffer = self.inputs.buffer(36);
-        let after = self.compare(
-            "backup_start",
-            (settings, own, start, buffer, tables),
-            |lent| calls::backup_start(lent.0, lent.1, lent.2, &mut lent.3, &mut lent.4),
-            |lent| model::backup_start(lent.0, lent.1, lent.2, &mut lent.3, &mut lent.4),
-        );
-        after.4
-    }
-
-    fn backup_step(&mut self, (settings, own, tables): (Settings, u32, BackupTables), packet: Vec<u8>) -> BackupTables {
-        let after = self.compare(
-            "backup_step",
-            (settings, own, packet, tables),
-            |lent| calls::backup_step(lent.0, lent.1, &mut lent.2, &mut lent.3),
-            |lent| model::backup_step(lent.0, lent.1, &mut lent.2, &mut lent.3),
-        );
-        after.3
-    }
-
-    fn learner_scene(&mut self, settings: Settings) {
-        let mut tables = self.inputs.learner_tables(settings);
-        for _ in 0..32 {
-            let mut input = (settings, tables.clone());
-            let spoiled = self.inputs.random.chance(8);
-            if spoiled {
-                self.spoil(&mut input.0, &mut input.1);
-            }
-            let after = match self.inputs.random.below(20) {
-                0 | 1 => self.learner_answer(settings, input),
-                2 => self.learner_deliver(settings, input),
-                3 => self.learner_first_hole(input),
-                4 => self.learner_save(settings, input),
-                5 => self.learner_read_saved(settings, input),
-                _ => self.learner_step(settings, input),
-            };
-            if !spoiled {
-                tables = after;
-            }
-        }
-    }
-
-    fn learner_step(&mut self, right: Settings, (settings, tables): (Settings, LearnerTables)) -> LearnerTables {
-        let instance = self.inputs.instance(right);
-        let cell = cell(&tables.rounds, &tables.values, instance);
-        let packet = self.inputs.packet(&[model::VOTE], right, instance, cell);
-        let after = self.compare(
-            "learner_step",
-            (settings, packet, tables),
-            |lent| calls::learner_step(lent.0, &mut lent.1, &mut lent.2),
-            |lent| model::learner_step(lent.0, &lent.1, &mut lent.2),
-        );
-        after.2
-    }
-
-    fn learner_answer(&mut self, right: Settings, (settings, tables): (Settings, LearnerTables)) -> LearnerTables {
-        let instance = self.inputs.instance(right);
-        let value = self.inputs.random.number() as u128 * 0x1_0000_0001_0000_0001;
-        let after = self.compare(
-            "learner_answer",
-            (settings, instance, tables, value),
-            |lent| calls::learner_answer(lent.0, lent.1, &mut lent.2, &mut lent.3),
-            |lent| model::learner_answer(lent.0, lent.1, &lent.2, &mut lent.3),
-        );
-        after.2
-    }
-
-    fn learner_deliver(&mut self, right: Settings, (settings, tables): (Settings, LearnerTables)) -> LearnerTables {
-        let buffer = self.inputs.buffer(16 * right.instances as usize);
-        let count = self.inputs.random.number() as u32;
-        let after = self.compare(
-            "learner_deliver",
-            (settings, tables, buffer, count),
-            |lent| calls::learner_deliver(lent.0, &mut lent.1, &mut lent.2, &mut lent.3),
-            |lent| model::learner_deliver(lent.0, &lent.1, &mut lent.2, &mut lent.3),
-        );
-        after.1
-    }
-
-    fn learner_first_hole(&mut self, (settings, tables): (Settings, LearnerTables)) -> LearnerTables {
-        let instance = self.inputs.random.number() as u32;
-        let after = self.compare(
-            "learner_first_hole",
-            (settings, tables, instance),
-            |lent| calls::learner_first_hole(lent.0, &mut lent.1, &mut lent.2),
-            |lent| model::learner_first_hole(lent.0, &lent.1, &mut lent.2),
-        );
-        after.1
-    }
-
-    fn learner_save(&mut self, right: Settings, (settings, tables): (Settings, LearnerTables)) -> LearnerTables {
-        let buffer = self.inputs.buffer(8 + 21 * right.instances as usize);
-        let after = self.compare(
-            "learner_save",
-            (settings, tables, buffer),
-            |lent| calls::learner_save(lent.0, &mut lent.1, &mut lent.2),
-            |lent| model::learner_save(lent.0, &lent.1, &mut lent.2),
-        );
-        after.1
-    }
-
-    fn learner_read_saved(&mut self, right: Settings, (settings, tables): (Settings, LearnerTables)) -> LearnerTables {
-        let saved = self.inputs.saved(right);
-        let after = self.compare(
-            "learner_read_saved",
-            (settings, saved, tables),
-            |lent| calls::learner_read_saved(lent.0, &mut lent.1, &mut lent.2),
-            |lent| model::learner_read_saved(lent.0, &lent.1, &mut lent.2),
-        );
-        after.2
-    }
-
-    /// Prints how often each call gave each answer, and counts what the paper allows but was never seen, or the other way round.
-    fn report(&self) -> usize {
-        let mut failed = 0;
-        for (call, answers) in ANSWERS {
-            let seen: Vec<String> = answers.iter().map(|answer| format!("{}: {}", answer, self.counts.get(&(call, *answer)).unwrap_or(&0))).collect();
-            println!("{} {}", call, seen.join(", "));
-            for answer in answers {
-                if !self.counts.contains_key(&(call, *answer)) {
-                    println!("FAILED: {} never answered {}", call, answer);
-                    failed += 1;
-                }
-            }
-        }
-        for (call, answer) in self.counts.keys() {
-            if !ANSWERS.iter().any(|(name, answers)| name == call && answers.contains(answer)) {
-                println!("FAILED: {} answered {}, which the paper does not let it", call, answer);
-                failed += 1;
-            }
-        }
-        failed
+        faults.iter().for_each(|fault| println!("FAILED: {} {}", self.call, fault));
+        faults.len()
     }
 }
 
 fn main() {
     let (count, seed) = random::count_and_seed();
-    let mut comparison = Comparison { inputs: Inputs::new(seed), compared: 0, counts: BTreeMap::new() };
+    let (mut passed, mut failed) = (0, 0);
+    let mut digests = Vec::new();
     let mut told = Instant::now();
-    while comparison.compared < count {
-        let settings = comparison.inputs.begin_scene();
-        match comparison.inputs.random.below(5) {
-            0 => comparison.primary_scene(settings),
-            1 => comparison.acceptor_scene(settings),
-            2 => comparison.backup_scene(settings),
-            _ => comparison.learner_scene(settings),
+    for call in CALLS {
+        let mut comparison = Comparison::new(call.name, seed);
+        (call.sweep)(&mut comparison);
+        let end = comparison.compared + count * call.share;
+        while comparison.compared < end {
+            let settings = comparison.inputs.begin_scene();
+            (call.scene)(&mut comparison, settings);
+            if told.elapsed() >= Duration::from_secs(5) {
+                eprintln!("compare: {} calls agreed", passed + comparison.compared);
+                told = Instant::now();
+            }
         }
-        if told.elapsed() >= Duration::from_secs(5) {
-            eprintln!("compare: {} of {} calls agreed", comparison.compared, count);
-            told = Instant::now();
-        }
+        passed += comparison.compared;
+        failed += comparison.report(call);
+        digests.push((call.name, comparison.digest.number()));
     }
-    let failed = comparison.report();
-    println!("{} passed, {} failed", comparison.compared, failed);
+    let mut total = Digest::new();
+    for (name, digest) in digests {
+        println!("digest {} {:016x}", name, digest);
+        digest.add_to(&mut total);
+    }
+    println!("digest {:016x}", total.number());
+    println!("{} passed, {} failed", passed, failed);
     std::process::exit((failed > 0) as i32);
 }

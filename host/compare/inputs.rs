@@ -7,8 +7,11 @@ use crate::tables::*;
 pub struct Inputs {
     pub random: Random,
     rounds: [u32; 4],
-    values: [u128; 4],
+    values: [u128; 5],
 }
+
+/// The value whose top bit alone is set: null for whoever looks at the other bits.
+pub const TOP_BIT: u128 = 1 << 127;
 
 /// The round and the value of the cell that an input is for.
 pub type Cell = (u32, u128);
@@ -24,7 +27,7 @@ enum Filling {
 
 impl Inputs {
     pub fn new(seed: u64) -> Self {
-        Inputs { random: Random::new(seed), rounds: [0; 4], values: [0; 4] }
+        Inputs { random: Random::new(seed), rounds: [0; 4], values: [0; 5] }
     }
 
     /// Other rounds and values for the scene that begins.
@@ -39,7 +42,7 @@ impl Inputs {
         let high = if self.random.chance(50) { 0 } else { self.random.number() };
         let value = (high as u128) << 64 | self.random.number() as u128;
         // values that differ in one half only, by one bit
-        self.values = [0, value, value ^ 1 << 64, value ^ 1 << self.random.below(64)];
+        self.values = [0, TOP_BIT, value, value ^ 1 << 64, value ^ 1 << self.random.below(64)];
         let instances = match self.random.below(40) {
             0 => self.random.pick(&[1023, 1024]),
             1 => 1 + self.random.below(1024),
@@ -97,6 +100,20 @@ impl Inputs {
         (if vote_round <= round { vote_round } else { self.random.pick(&[0, round]) }, self.value())
     }
 
+    /// A primary's next instance: fresh, near N, well within N or far beyond.
+    pub fn next(&mut self, settings: Settings) -> u32 {
+        let instances = settings.instances;
+        match self.random.below(10) {
+            0..=3 => 0,
+            4 => instances - 1,
+            5 => instances,
+            6 => instances + 1,
+            7 => self.random.pick(&[65_535, 65_536, 65_536 + instances - 1, 65_536 + instances, 1 << 31, NONE]),
+            8 => self.random.number() as u32,
+            _ => self.random.below(instances as usize) as u32,
+        }
+    }
+
     pub fn instance(&mut self, settings: Settings) -> u32 {
         let instances = settings.instances;
         match self.random.below(16) {
@@ -134,7 +151,7 @@ impl Inputs {
     // Settings that are not allowed
 
     pub fn wrong_acceptors(&mut self) -> u32 {
-        self.random.pick(&[0, 1, 2, 4, 6, 8, 9, 11, 259, 261, 263, 65_539, 0x8000_0003, NONE])
+        self.random.pick(&[0, 1, 2, 4, 6, 8, 9, 11, 13, 15, 131, 133, 135, 259, 261, 263, 65_539, 0x8000_0003, NONE])
     }
 
     /// Most of them would pass if only a part of the number, or a small multiple that wraps, were compared.
@@ -340,9 +357,10 @@ impl Inputs {
     }
 
     fn spoil_backup_cell(&mut self, settings: Settings, tables: &mut BackupTables, cell: usize) {
-        match self.random.below(8) {
+        match self.random.below(9) {
             0 => tables.rounds[cell] = self.any_round(),
-            1 => tables.phases[cell] = self.random.pick(&[0, 1, 2, 3, 4, 128, 255]),
+            1 => tables.phases[cell] = self.random.number() as u8,
+            8 => tables.phases[cell] = self.random.pick(&[0, 1, 2, 3, 4, 128, 255]),
             2 | 7 => tables.sets[cell] = self.any_set(settings),
             3 => tables.best_vote_rounds[cell] = self.any_round(),
             4 => set_value(&mut tables.best_values, cell, self.value()),

@@ -125,23 +125,32 @@ pub fn write(message: &Message, packet: &mut [u8]) {
 
 // Primary
 
-pub fn primary_step(settings: Settings, packet: &mut [u8], next: &mut [u32]) -> Answer {
-    if !allowed(settings) || next.len() != 1 {
+/// The record lent by reference.
+pub fn primary_request(settings: Settings, packet: &mut [u8], next: &mut u32) -> Answer {
+    if !allowed(settings) {
         return Err(7);
     }
     let request = read(packet)?;
     if request.kind != REQUEST {
         return Err(6);
     }
-    if next[0] > settings.instances {
+    if *next > settings.instances {
         return Err(17);
     }
-    if next[0] == settings.instances {
+    if *next == settings.instances {
         return Err(12);
     }
-    write(&Message { kind: PROPOSE, switch: 0, instance: next[0], round: 0, vote_round: NONE, value: request.value }, packet);
-    next[0] += 1;
+    write(&Message { kind: PROPOSE, switch: 0, instance: *next, round: 0, vote_round: NONE, value: request.value }, packet);
+    *next += 1;
     Ok(TO_ACCEPTORS)
+}
+
+/// The record lent as a slice, which is to have one number.
+pub fn primary_step(settings: Settings, packet: &mut [u8], next: &mut [u32]) -> Answer {
+    if next.len() != 1 {
+        return Err(7);
+    }
+    primary_request(settings, packet, &mut next[0])
 }
 
 // Acceptor

@@ -193,6 +193,8 @@ impl Run {
     fn hand_over(&mut self, player: Player, mut packet: Packet) -> Result<u32, String> {
         let settings = self.settings;
         let answer = match player {
+            // the two forms of its call are one player
+            Player::Primary if self.random.chance(50) => calls::primary_request(settings, &mut packet, &mut self.next[0]),
             Player::Primary => calls::primary_step(settings, &mut packet, &mut self.next),
             Player::Acceptor(own) => calls::acceptor_step(settings, own as u32, &mut packet, &mut self.acceptors[own]),
             Player::Backup(index) => calls::backup_step(settings, index as u32 + 1, &mut packet, &mut self.backups[index]),

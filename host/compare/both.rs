@@ -1,0 +1,183 @@
+//! Each call on both sides, and which kinds of input it met: a kind counts only where the call looks at it, which its answer tells.
+
+use crate::inputs::TOP_BIT;
+use crate::tables::*;
+use crate::{calls, model, Comparison};
+
+pub const M: &str = "each M below 256";
+pub const NEXT_WITHIN: &str = "next from 12 to N - 2";
+pub const NEXT_FAR: &str = "next above 65,535";
+pub const PHASE: &str = "each phase";
+pub const SET: &str = "each set";
+pub const PACKET_TOP_BIT: &str = "top bit alone in the packet";
+pub const CELL_TOP_BIT: &str = "top bit alone in the cell";
+
+pub type PrimaryStep = (Settings, Vec<u8>, Vec<u32>);
+pub type PrimaryRequest = (Settings, Vec<u8>, u32);
+pub type AcceptorStep = (Settings, u32, Vec<u8>, AcceptorTables);
+pub type BackupStart = (Settings, u32, Start, Vec<u8>, BackupTables);
+pub type BackupStep = (Settings, u32, Vec<u8>, BackupTables);
+pub type LearnerStep = (Settings, Vec<u8>, LearnerTables);
+pub type LearnerAnswer = (Settings, u32, LearnerTables, u128);
+pub type LearnerDeliver = (Settings, LearnerTables, Vec<u8>, u32);
+pub type LearnerFirstHole = (Settings, LearnerTables, u32);
+pub type LearnerSave = (Settings, LearnerTables, Vec<u8>);
+pub type LearnerReadSaved = (Settings, Vec<u8>, LearnerTables);
+
+/// 10 to 17 and the verdicts come after the look at the cell, all others before.
+fn looked_at_cell(answer: u32) -> bool {
+    answer >= 10
+}
+
+/// The fields of the packet were judged.
+fn looked_at_fields(answer: u32) -> bool {
+    answer >= 5 && answer != 7
+}
+
+fn instance_of(packet: &[u8]) -> usize {
+    packet[8..12].iter().fold(0, |sum, byte| sum << 8 | *byte as usize)
+}
+
+fn saw_packet(comparison: &mut Comparison, answer: u32, packet: &[u8]) {
+    if looked_at_fields(answer) && packet[20..36] == TOP_BIT.to_be_bytes() {
+        comparison.saw(PACKET_TOP_BIT, 0);
+    }
+}
+
+fn saw_value(comparison: &mut Comparison, values: &[u64], cell: usize) {
+    if value_of(values, cell) == TOP_BIT {
+        comparison.saw(CELL_TOP_BIT, 0);
+    }
+}
+
+fn saw_next(comparison: &mut Comparison, answer: u32, settings: Settings, next: u32) {
+    if looked_at_cell(answer) && (12..settings.instances.saturating_sub(1)).contains(&next) {
+        comparison.saw(NEXT_WITHIN, 0);
+    }
+    if looked_at_cell(answer) && next > 65_535 {
+        comparison.saw(NEXT_FAR, 0);
+    }
+}
+
+fn saw_backup_cell(comparison: &mut Comparison, answer: u32, tables: &BackupTables, cell: usize) {
+    if looked_at_cell(answer) {
+        comparison.saw(PHASE, tables.phases[cell] as u32);
+        comparison.saw(SET, tables.sets[cell] as u32);
+        saw_value(comparison, &tables.best_values, cell);
+        saw_value(comparison, &tables.own_values, cell);
+    }
+}
+
+fn saw_learner_cell(comparison: &mut Comparison, answer: u32, tables: &LearnerTables, cell: usize) {
+    if looked_at_cell(answer) {
+        comparison.saw(SET, tables.sets[cell] as u32);
+        saw_value(comparison, &tables.values, cell);
+    }
+}
+
+pub fn primary_step(comparison: &mut Comparison, input: PrimaryStep) -> PrimaryStep {
+    let archive = |lent: &mut PrimaryStep| calls::primary_step(lent.0, &mut lent.1, &mut lent.2);
+    let (answer, after) = comparison.compare(&input, archive, |lent| model::primary_step(lent.0, &mut lent.1, &mut lent.2));
+    comparison.saw(M, input.0.acceptors);
+    saw_packet(comparison, answer, &input.1);
+    input.2.iter().for_each(|next| saw_next(comparison, answer, input.0, *next));
+    after
+}
+
+pub fn primary_request(comparison: &mut Comparison, input: PrimaryRequest) -> PrimaryRequest {
+    let archive = |lent: &mut PrimaryRequest| calls::primary_request(lent.0, &mut lent.1, &mut lent.2);
+    let (answer, after) = comparison.compare(&input, archive, |lent| model::primary_request(lent.0, &mut lent.1, &mut lent.2));
+    comparison.saw(M, input.0.acceptors);
+    saw_packet(comparison, answer, &input.1);
+    saw_next(comparison, answer, input.0, input.2);
+    after
+}
+
+pub fn acceptor_step(comparison: &mut Comparison, input: AcceptorStep) -> AcceptorStep {
+    let archive = |lent: &mut AcceptorStep| calls::acceptor_step(lent.0, lent.1, &mut lent.2, &mut lent.3);
+    let (answer, after) = comparison.compare(&input, archive, |lent| model::acceptor_step(lent.0, lent.1, &mut lent.2, &mut lent.3));
+    comparison.saw(M, input.0.acceptors);
+    saw_packet(comparison, answer, &input.2);
+    if looked_at_cell(answer) {
+        saw_value(comparison, &input.3.values, instance_of(&input.2));
+    }
+    after
+}
+
+pub fn backup_start(comparison: &mut Comparison, input: BackupStart) -> BackupStart {
+    let archive = |lent: &mut BackupStart| calls::backup_start(lent.0, lent.1, lent.2, &mut lent.3, &mut lent.4);
+    let (answer, after) = comparison.compare(&input, archive, |lent| model::backup_start(lent.0, lent.1, lent.2, &mut lent.3, &mut lent.4));
+    comparison.saw(M, input.0.acceptors);
+    saw_backup_cell(comparison, answer, &input.4, input.2.instance as usize);
+    after
+}
+
+pub fn backup_step(comparison: &mut Comparison, input: BackupStep) -> BackupStep {
+    let archive = |lent: &mut BackupStep| calls::backup_step(lent.0, lent.1, &mut lent.2, &mut lent.3);
+    let (answer, after) = comparison.compare(&input, archive, |lent| model::backup_step(lent.0, lent.1, &mut lent.2, &mut lent.3));
+    comparison.saw(M, input.0.acceptors);
+    saw_packet(comparison, answer, &input.2);
+    if looked_at_cell(answer) {
+        saw_backup_cell(comparison, answer, &input.3, instance_of(&input.2));
+    }
+    after
+}
+
+pub fn learner_step(comparison: &mut Comparison, input: LearnerStep) -> LearnerStep {
+    let archive = |lent: &mut LearnerStep| calls::learner_step(lent.0, &mut lent.1, &mut lent.2);
+    let (answer, after) = comparison.compare(&input, archive, |lent| model::learner_step(lent.0, &lent.1, &mut lent.2));
+    comparison.saw(M, input.0.acceptors);
+    saw_packet(comparison, answer, &input.1);
+    if looked_at_cell(answer) {
+        saw_learner_cell(comparison, answer, &input.2, instance_of(&input.1));
+    }
+    after
+}
+
+pub fn learner_answer(comparison: &mut Comparison, input: LearnerAnswer) -> LearnerAnswer {
+    let archive = |lent: &mut LearnerAnswer| calls::learner_answer(lent.0, lent.1, &mut lent.2, &mut lent.3);
+    let (answer, after) = comparison.compare(&input, archive, |lent| model::learner_answer(lent.0, lent.1, &lent.2, &mut lent.3));
+    comparison.saw(M, input.0.acceptors);
+    saw_learner_cell(comparison, answer, &input.2, input.1 as usize);
+    after
+}
+
+// The walks look at every cell, at the first in any case.
+
+pub fn learner_deliver(comparison: &mut Comparison, input: LearnerDeliver) -> LearnerDeliver {
+    let archive = |lent: &mut LearnerDeliver| calls::learner_deliver(lent.0, &mut lent.1, &mut lent.2, &mut lent.3);
+    let (answer, after) = comparison.compare(&input, archive, |lent| model::learner_deliver(lent.0, &lent.1, &mut lent.2, &mut lent.3));
+    comparison.saw(M, input.0.acceptors);
+    saw_learner_cell(comparison, answer, &input.1, 0);
+    after
+}
+
+pub fn learner_first_hole(comparison: &mut Comparison, input: LearnerFirstHole) -> LearnerFirstHole {
+    let archive = |lent: &mut LearnerFirstHole| calls::learner_first_hole(lent.0, &mut lent.1, &mut lent.2);
+    let (answer, after) = comparison.compare(&input, archive, |lent| model::learner_first_hole(lent.0, &lent.1, &mut lent.2));
+    comparison.saw(M, input.0.acceptors);
+    saw_learner_cell(comparison, answer, &input.1, 0);
+    after
+}
+
+pub fn learner_save(comparison: &mut Comparison, input: LearnerSave) -> LearnerSave {
+    let archive = |lent: &mut LearnerSave| calls::learner_save(lent.0, &mut lent.1, &mut lent.2);
+    let (answer, after) = comparison.compare(&input, archive, |lent| model::learner_save(lent.0, &lent.1, &mut lent.2));
+    comparison.saw(M, input.0.acceptors);
+    saw_learner_cell(comparison, answer, &input.1, 0);
+    after
+}
+
+pub fn learner_read_saved(comparison: &mut Comparison, input: LearnerReadSaved) -> LearnerReadSaved {
+    let archive = |lent: &mut LearnerReadSaved| calls::learner_read_saved(lent.0, &mut lent.1, &mut lent.2);
+    let (answer, after) = comparison.compare(&input, archive, |lent| model::learner_read_saved(lent.0, &lent.1, &mut lent.2));
+    comparison.saw(M, input.0.acceptors);
+    if looked_at_cell(answer) {
+        // the first saved cell: its set, and its value
+        comparison.saw(SET, input.1[12] as u32);
+        if input.1[13..29] == TOP_BIT.to_be_bytes() {
+            comparison.saw(CELL_TOP_BIT, 0);
+        }
+    }
+    after
+}

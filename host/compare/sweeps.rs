@@ -1,0 +1,213 @@
+//! Inputs in rows: a good input of a call with one or two of its numbers gone through, so that each comes up whatever chance does.
+
+use crate::inputs::TOP_BIT;
+use crate::model::{self, Message, PREPARE, PROMISE, PROPOSE, REQUEST, VOTE};
+use crate::tables::*;
+use crate::{both, Comparison};
+
+const VALUES: [u128; 5] = [0, TOP_BIT, 1 << 64, 1 << 63, 1];
+const ACCEPTORS: [u32; 3] = [3, 5, 7];
+
+fn packet(kind: u8, switch: u32, instance: u32, round: u32, vote_round: u32, value: u128) -> Vec<u8> {
+    let mut packet = vec![0; 36];
+    model::write(&Message { kind, switch: switch as u16, instance, round, vote_round, value }, &mut packet);
+    packet
+}
+
+/// Every M up to 255 and some beyond, then N at its ends and beyond, each with tables of that size: the settings alone are wrong.
+fn settings(comparison: &mut Comparison, call: impl Fn(&mut Comparison, Settings)) {
+    for acceptors in (0..=255).chain([259, 261, 263, 65_539, 0x8000_0003, NONE]) {
+        call(comparison, Settings { acceptors, instances: 2 });
+    }
+    for instances in [0, 1, 255, 256, 257, 1023, 1024, 1025, 1026, 2048, 65_537] {
+        call(comparison, Settings { acceptors: 3, instances });
+    }
+}
+
+// Primary
+
+fn request() -> Vec<u8> {
+    packet(REQUEST, 9, 0, 0, NONE, TOP_BIT)
+}
+
+/// Every next instance up to N and a little over, and some far beyond.
+fn nexts() -> impl Iterator<Item = u32> {
+    (0..=1026).chain([65_535, 65_536, 65_537, 65_536 + 1023, 65_536 + 1024, 1 << 31, NONE - 1, NONE])
+}
+
+pub fn primary_step(comparison: &mut Comparison) {
+    settings(comparison, |comparison, settings| {
+        both::primary_step(comparison, (settings, request(), vec![0]));
+    });
+    for next in nexts() {
+        both::primary_step(comparison, (Settings { acceptors: 3, instances: 1024 }, request(), vec![next]));
+    }
+}
+
+pub fn primary_request(comparison: &mut Comparison) {
+    settings(comparison, |comparison, settings| {
+        both::primary_request(comparison, (settings, request(), 0));
+    });
+    for next in nexts() {
+        both::primary_request(comparison, (Settings { acceptors: 3, instances: 1024 }, request(), next));
+    }
+}
+
+// Acceptor
+
+pub fn acceptor_step(comparison: &mut Comparison) {
+    settings(comparison, |comparison, settings| {
+        let propose = packet(PROPOSE, 0, 0, 0, NONE, TOP_BIT);
+        both::acceptor_step(comparison, (settings, 0, propose, AcceptorTables::fresh(settings.instances as usize)));
+    });
+    for round in [0, 1, 4, 5, NONE] {
+        for vote_round in [NONE, 0, 1, 4, 5] {
+            for value in VALUES {
+                let tables = AcceptorTables { rounds: vec![round], vote_rounds: vec![vote_round], values: vec![(value >> 64) as u64, value as u64] };
+                orders(comparison, tables);
+            }
+        }
+    }
+}
+
+/// Prepares and proposes for the one cell.
+fn orders(comparison: &mut Comparison, tables: AcceptorTables) {
+    let settings = Settings { acceptors: 3, instances: 1 };
+    for round in [1, 5] {
+        both::acceptor_step(comparison, (settings, 2, packet(PREPARE, 1, 0, round, NONE, 0), tables.clone()));
+    }
+    for (round, value) in [(0, TOP_BIT), (1, 0), (5, TOP_BIT)] {
+        both::acceptor_step(comparison, (settings, 2, packet(PROPOSE, round % 4, 0, round, NONE, value), tables.clone()));
+    }
+}
+
+// Backup 1, with one cell in round 5
+
+fn backup_cell(phase: u8, set: u8, best_vote_round: u32, best_value: u128) -> BackupTables {
+    let mut tables = BackupTables::fresh(1);
+    tables.rounds[0] = 5;
+    tables.phases[0] = phase;
+    tables.sets[0] = set;
+    tables.best_vote_rounds[0] = best_vote_round;
+    model::set_value(&mut tables.best_values, 0, best_value);
+    model::set_value(&mut tables.own_values, 0, TOP_BIT);
+    tables
+}
+
+/// Cells of every phase, that are fresh, asking or proposed but for the phase; cells of every set; and best votes of all sorts.
+fn backup_cells(acceptors: u32) -> Vec<BackupTables> {
+    let majority = acceptors / 2 + 1;
+    let (asking, proposed) = ((1 << (majority - 1)) - 1, (1 << majority) - 1);
+    let mut cells = Vec::new();
+    for number in 0..=255 {
+        let mut fresh = BackupTables::fresh(1);
+        fresh.phases[0] = number;
+        cells.push(fresh);
+        cells.push(backup_cell(number, asking, NONE, 0));
+        cells.push(backup_cell(number, proposed, 1, TOP_BIT));
+        for phase in 0..3 {
+            cells.push(backup_cell(phase, number, NONE, 0));
+        }
+    }
+    for value in VALUES {
+        for best_vote_round in [NONE, 0, 1, 4, 5, 6] {
+            cells.push(backup_cell(1, asking, best_vote_round, value));
+        }
+    }
+    cells
+}
+
+pub fn backup_start(comparison: &mut Comparison) {
+    let start = |floor| Start { instance: 0, floor, value: TOP_BIT };
+    settings(comparison, |comparison, settings| {
+        let start = Start { instance: 0, floor: 0, value: TOP_BIT };
+        both::backup_start(comparison, (settings, 1, start, vec![0; 36], BackupTables::fresh(settings.instances as usize)));
+    });
+    for acceptors in ACCEPTORS {
+        for cell in backup_cells(acceptors) {
+            both::backup_start(comparison, (Settings { acceptors, instances: 1 }, 1, start(0), vec![0; 36], cell));
+        }
+    }
+    for own in 1..=3 {
+        for floor in (0..12).chain(NONE - 12..=NONE) {
+            both::backup_start(comparison, (Settings { acceptors: 3, instances: 1 }, own, start(floor), vec![0; 36], BackupTables::fresh(1)));
+        }
+    }
+}
+
+pub fn backup_step(comparison: &mut Comparison) {
+    settings(comparison, |comparison, settings| {
+        let mut tables = BackupTables::fresh(settings.instances as usize);
+        let start = Start { instance: 0, floor: 0, value: 0 };
+        let _ = model::backup_start(settings, 1, start, &mut [0; 36], &mut tables);
+        both::backup_step(comparison, (settings, 1, packet(PROMISE, 0, 0, 1, NONE, 0), tables));
+    });
+    for acceptors in ACCEPTORS {
+        for cell in backup_cells(acceptors) {
+            let promise = packet(PROMISE, acceptors - 1, 0, 5, 0, TOP_BIT);
+            both::backup_step(comparison, (Settings { acceptors, instances: 1 }, 1, promise, cell));
+        }
+    }
+}
+
+// Learner
+
+/// One cell of every set, unheard, in round 0 and in round 5, of each value.
+fn learner_cells(comparison: &mut Comparison, call: fn(&mut Comparison, Settings, LearnerTables)) {
+    for acceptors in ACCEPTORS {
+        for set in 0..=255 {
+            for (round, value) in [(NONE, 0), (NONE, TOP_BIT), (0, 1), (5, TOP_BIT)] {
+                let tables = LearnerTables { rounds: vec![round], sets: vec![set], values: vec![(value >> 64) as u64, value as u64] };
+                call(comparison, Settings { acceptors, instances: 1 }, tables);
+            }
+        }
+    }
+}
+
+/// The call with all settings on fresh tables, then on every cell.
+fn learner(comparison: &mut Comparison, call: fn(&mut Comparison, Settings, LearnerTables)) {
+    settings(comparison, |comparison, settings| call(comparison, settings, LearnerTables::fresh(settings.instances as usize)));
+    learner_cells(comparison, call);
+}
+
+pub fn learner_step(comparison: &mut Comparison) {
+    learner(comparison, |comparison, settings, tables| {
+        let vote = packet(VOTE, 2, 0, 5, 5, TOP_BIT);
+        both::learner_step(comparison, (settings, vote, tables));
+    });
+}
+
+pub fn learner_answer(comparison: &mut Comparison) {
+    learner(comparison, |comparison, settings, tables| {
+        both::learner_answer(comparison, (settings, 0, tables, 7));
+    });
+}
+
+pub fn learner_deliver(comparison: &mut Comparison) {
+    learner(comparison, |comparison, settings, tables| {
+        let buffer = vec![0xee; 16 * settings.instances as usize];
+        both::learner_deliver(comparison, (settings, tables, buffer, 7));
+    });
+}
+
+pub fn learner_first_hole(comparison: &mut Comparison) {
+    learner(comparison, |comparison, settings, tables| {
+        both::learner_first_hole(comparison, (settings, tables, 7));
+    });
+}
+
+pub fn learner_save(comparison: &mut Comparison) {
+    learner(comparison, |comparison, settings, tables| {
+        let buffer = vec![0xee; 8 + 21 * settings.instances as usize];
+        both::learner_save(comparison, (settings, tables, buffer));
+    });
+}
+
+/// The cells stand in the saved bytes, and those lent are fresh.
+pub fn learner_read_saved(comparison: &mut Comparison) {
+    learner(comparison, |comparison, settings, tables| {
+        let mut saved = vec![0; 8 + 21 * settings.instances as usize];
+        model::write_saved(settings, &tables, &mut saved);
+        both::learner_read_saved(comparison, (settings, saved, LearnerTables::fresh(settings.instances as usize)));
+    });
+}
