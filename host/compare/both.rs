@@ -1,8 +1,10 @@
 //! Each call on both sides, and which kinds of input it met: a kind counts only where the call looks at it, which its answer tells.
 
+use crate::digest::Content;
 use crate::inputs::TOP_BIT;
 use crate::tables::*;
 use crate::{calls, model, Comparison};
+use std::fmt::Debug;
 
 pub const M: &str = "each M below 256";
 pub const NEXT_WITHIN: &str = "next from 12 to N - 2";
@@ -11,7 +13,13 @@ pub const PHASE: &str = "each phase";
 pub const SET: &str = "each set";
 pub const PACKET_TOP_BIT: &str = "top bit alone in the packet";
 pub const CELL_TOP_BIT: &str = "top bit alone in the cell";
+pub const KIND_TAKEN: &str = "each kind taken";
+pub const KIND_BROKEN: &str = "each kind refused by 5";
+pub const SWITCH_FAR: &str = "each kind with its switch number and 65,536";
+pub const KIND_FAR: &str = "each kind and 256";
 
+pub type PacketWrite = (Fields, Vec<u8>);
+pub type PacketRead = (Vec<u8>, Fields);
 pub type PrimaryStep = (Settings, Vec<u8>, Vec<u32>);
 pub type PrimaryRequest = (Settings, Vec<u8>, u32);
 pub type AcceptorStep = (Settings, u32, Vec<u8>, AcceptorTables);
@@ -74,6 +82,66 @@ fn saw_learner_cell(comparison: &mut Comparison, answer: u32, tables: &LearnerTa
         saw_value(comparison, &tables.values, cell);
     }
 }
+
+pub fn packet_write(comparison: &mut Comparison, input: PacketWrite) -> PacketWrite {
+    let archive = |lent: &mut PacketWrite| calls::packet_write(lent.0, &mut lent.1);
+    let (answer, after) = comparison.compare(&input, archive, |lent| model::packet_write(lent.0, &mut lent.1));
+    let fields = input.0;
+    match answer {
+        DONE => comparison.saw(KIND_TAKEN, fields.kind),
+        5 => comparison.saw(KIND_BROKEN, fields.kind),
+        _ => {}
+    }
+    // good if the number were a smaller one
+    let good = |fields: Fields| model::packet_write(fields, &mut [0; 36]).is_ok();
+    if answer == 5 && fields.switch >> 16 == 1 && good(Fields { switch: fields.switch - 65_536, ..fields }) {
+        comparison.saw(SWITCH_FAR, fields.kind);
+    }
+    if answer == 4 && fields.kind >> 8 == 1 && good(Fields { kind: fields.kind - 256, ..fields }) {
+        comparison.saw(KIND_FAR, fields.kind - 256);
+    }
+    after
+}
+
+pub fn packet_read(comparison: &mut Comparison, input: PacketRead) -> PacketRead {
+    let archive = |lent: &mut PacketRead| calls::packet_read(&mut lent.0, &mut lent.1);
+    let (answer, after) = comparison.compare(&input, archive, |lent| model::packet_read(&lent.0, &mut lent.1));
+    match answer {
+        DONE => comparison.saw(KIND_TAKEN, input.0[3] as u32),
+        5 => comparison.saw(KIND_BROKEN, input.0[3] as u32),
+        _ => {}
+    }
+    saw_packet(comparison, answer, &input.0);
+    after
+}
+
+// Fresh tables
+
+fn fresh<T>(comparison: &mut Comparison, input: (Settings, T), archive: fn(Settings, &mut T) -> u32, model: fn(Settings, &mut T) -> model::Answer)
+where
+    T: Content + Clone + PartialEq + Debug,
+{
+    comparison.compare(&input, |lent| archive(lent.0, &mut lent.1), |lent| model(lent.0, &mut lent.1));
+    comparison.saw(M, input.0.acceptors);
+}
+
+pub fn primary_fresh(comparison: &mut Comparison, input: (Settings, Vec<u32>)) {
+    fresh(comparison, input, calls::primary_fresh, model::primary_fresh);
+}
+
+pub fn acceptor_fresh(comparison: &mut Comparison, input: (Settings, AcceptorTables)) {
+    fresh(comparison, input, calls::acceptor_fresh, model::acceptor_fresh);
+}
+
+pub fn backup_fresh(comparison: &mut Comparison, input: (Settings, BackupTables)) {
+    fresh(comparison, input, calls::backup_fresh, model::backup_fresh);
+}
+
+pub fn learner_fresh(comparison: &mut Comparison, input: (Settings, LearnerTables)) {
+    fresh(comparison, input, calls::learner_fresh, model::learner_fresh);
+}
+
+// Players
 
 pub fn primary_step(comparison: &mut Comparison, input: PrimaryStep) -> PrimaryStep {
     let archive = |lent: &mut PrimaryStep| calls::primary_step(lent.0, &mut lent.1, &mut lent.2);

@@ -10,6 +10,42 @@ struct Primary {
 
 #[rustfmt::skip]
 extern "C" {
+    fn myrthakel_packet_write(
+        kind: u32, switch_number: u32, instance: u32, round: u32, vote_round: u32, value_high: u64, value_low: u64,
+        packet: *mut u8, packet_length: usize,
+    ) -> u32;
+
+    fn myrthakel_packet_read(
+        packet: *const u8, packet_length: usize,
+        kind: *mut u32, switch_number: *mut u32, instance: *mut u32, round: *mut u32, vote_round: *mut u32, value_high: *mut u64, value_low: *mut u64,
+    ) -> u32;
+
+    fn myrthakel_primary_fresh(acceptors: u32, instances: u32, next: *mut u32, next_length: usize) -> u32;
+
+    fn myrthakel_acceptor_fresh(
+        acceptors: u32, instances: u32,
+        rounds: *mut u32, rounds_length: usize,
+        vote_rounds: *mut u32, vote_rounds_length: usize,
+        values: *mut u64, values_length: usize,
+    ) -> u32;
+
+    fn myrthakel_backup_fresh(
+        acceptors: u32, instances: u32,
+        rounds: *mut u32, rounds_length: usize,
+        phases: *mut u8, phases_length: usize,
+        sets: *mut u8, sets_length: usize,
+        best_vote_rounds: *mut u32, best_vote_rounds_length: usize,
+        best_values: *mut u64, best_values_length: usize,
+        own_values: *mut u64, own_values_length: usize,
+    ) -> u32;
+
+    fn myrthakel_learner_fresh(
+        acceptors: u32, instances: u32,
+        rounds: *mut u32, rounds_length: usize,
+        sets: *mut u8, sets_length: usize,
+        values: *mut u64, values_length: usize,
+    ) -> u32;
+
     fn myrthakel_primary_step(acceptors: u32, instances: u32, packet: *mut u8, packet_length: usize, next: *mut u32, next_length: usize) -> u32;
 
     fn myrthakel_primary_request(acceptors: u32, instances: u32, packet: *mut u8, packet_length: usize, primary: *mut Primary) -> u32;
@@ -93,6 +129,76 @@ extern "C" {
         sets: *mut u8, sets_length: usize,
         values: *mut u64, values_length: usize,
     ) -> u32;
+}
+
+#[rustfmt::skip]
+pub fn packet_write(fields: Fields, packet: &mut [u8]) -> u32 {
+    unsafe {
+        myrthakel_packet_write(
+            fields.kind, fields.switch, fields.instance, fields.round, fields.vote_round, (fields.value >> 64) as u64, fields.value as u64,
+            packet.as_mut_ptr(), packet.len(),
+        )
+    }
+}
+
+#[rustfmt::skip]
+pub fn packet_read(packet: &mut [u8], fields: &mut Fields) -> u32 {
+    let mut high = (fields.value >> 64) as u64;
+    let mut low = fields.value as u64;
+    let answer = unsafe {
+        myrthakel_packet_read(
+            packet.as_mut_ptr(), packet.len(),
+            &mut fields.kind, &mut fields.switch, &mut fields.instance, &mut fields.round, &mut fields.vote_round, &mut high, &mut low,
+        )
+    };
+    fields.value = (high as u128) << 64 | low as u128;
+    answer
+}
+
+pub fn primary_fresh(settings: Settings, next: &mut Vec<u32>) -> u32 {
+    unsafe { myrthakel_primary_fresh(settings.acceptors, settings.instances, next.as_mut_ptr(), next.len()) }
+}
+
+#[rustfmt::skip]
+pub fn acceptor_fresh(settings: Settings, tables: &mut AcceptorTables) -> u32 {
+    let Settings { acceptors, instances } = settings;
+    unsafe {
+        myrthakel_acceptor_fresh(
+            acceptors, instances,
+            tables.rounds.as_mut_ptr(), tables.rounds.len(),
+            tables.vote_rounds.as_mut_ptr(), tables.vote_rounds.len(),
+            tables.values.as_mut_ptr(), tables.values.len(),
+        )
+    }
+}
+
+#[rustfmt::skip]
+pub fn backup_fresh(settings: Settings, tables: &mut BackupTables) -> u32 {
+    let Settings { acceptors, instances } = settings;
+    unsafe {
+        myrthakel_backup_fresh(
+            acceptors, instances,
+            tables.rounds.as_mut_ptr(), tables.rounds.len(),
+            tables.phases.as_mut_ptr(), tables.phases.len(),
+            tables.sets.as_mut_ptr(), tables.sets.len(),
+            tables.best_vote_rounds.as_mut_ptr(), tables.best_vote_rounds.len(),
+            tables.best_values.as_mut_ptr(), tables.best_values.len(),
+            tables.own_values.as_mut_ptr(), tables.own_values.len(),
+        )
+    }
+}
+
+#[rustfmt::skip]
+pub fn learner_fresh(settings: Settings, tables: &mut LearnerTables) -> u32 {
+    let Settings { acceptors, instances } = settings;
+    unsafe {
+        myrthakel_learner_fresh(
+            acceptors, instances,
+            tables.rounds.as_mut_ptr(), tables.rounds.len(),
+            tables.sets.as_mut_ptr(), tables.sets.len(),
+            tables.values.as_mut_ptr(), tables.values.len(),
+        )
+    }
 }
 
 pub fn primary_step(settings: Settings, packet: &mut [u8], next: &mut [u32]) -> u32 {

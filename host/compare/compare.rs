@@ -42,6 +42,32 @@ const LEARNER_KINDS: &[(&str, u32)] = &[(both::M, 256), (both::SET, 256), (both:
 #[rustfmt::skip]
 const CALLS: &[Call] = &[
     Call {
+        name: "packet_write", share: 1, answers: &[1, 4, 5, DONE],
+        kinds: &[(both::KIND_TAKEN, 5), (both::KIND_BROKEN, 5), (both::SWITCH_FAR, 5), (both::KIND_FAR, 5)],
+        sweep: sweeps::packet_write, scene: scenes::packet_write,
+    },
+    Call {
+        name: "packet_read", share: 1, answers: &[1, 2, 3, 4, 5, DONE],
+        kinds: &[(both::KIND_TAKEN, 5), (both::KIND_BROKEN, 5), (both::PACKET_TOP_BIT, 1)],
+        sweep: sweeps::packet_read, scene: scenes::packet_read,
+    },
+    Call {
+        name: "primary_fresh", share: 1, answers: &[7, DONE], kinds: &[(both::M, 256)],
+        sweep: sweeps::primary_fresh, scene: scenes::primary_fresh,
+    },
+    Call {
+        name: "acceptor_fresh", share: 1, answers: &[7, DONE], kinds: &[(both::M, 256)],
+        sweep: sweeps::acceptor_fresh, scene: scenes::acceptor_fresh,
+    },
+    Call {
+        name: "backup_fresh", share: 1, answers: &[7, DONE], kinds: &[(both::M, 256)],
+        sweep: sweeps::backup_fresh, scene: scenes::backup_fresh,
+    },
+    Call {
+        name: "learner_fresh", share: 1, answers: &[7, DONE], kinds: &[(both::M, 256)],
+        sweep: sweeps::learner_fresh, scene: scenes::learner_fresh,
+    },
+    Call {
         name: "primary_step", share: 1, answers: PRIMARY_ANSWERS, kinds: PRIMARY_KINDS,
         sweep: sweeps::primary_step, scene: scenes::primary_step,
     },

@@ -59,6 +59,7 @@ macro_rules! parts {
 parts! {
     Settings: acceptors instances;
     Start: instance floor value;
+    Fields: kind switch instance round vote_round value;
     AcceptorTables: rounds vote_rounds values;
     BackupTables: rounds phases sets best_vote_rounds best_values own_values;
     LearnerTables: rounds sets values;

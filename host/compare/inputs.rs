@@ -215,6 +215,33 @@ impl Inputs {
         packet
     }
 
+    /// The fields of a message that keeps the packet's table, half of the time with one or two of them changed.
+    pub fn fields(&mut self, settings: Settings) -> Fields {
+        let kind = self.random.below(5) as u8;
+        let instance = self.instance(settings);
+        let Message { kind, switch, instance, round, vote_round, value } = self.message(kind, settings, instance, None);
+        let mut fields = Fields { kind: kind as u32, switch: switch as u32, instance, round, vote_round, value };
+        for _ in 0..self.random.pick(&[0, 0, 1, 2]) {
+            self.change_one_of(&mut fields);
+        }
+        fields
+    }
+
+    /// Kinds and switch numbers that would pass if only their last byte or two were looked at come up as well.
+    fn change_one_of(&mut self, fields: &mut Fields) {
+        let beyond = self.random.pick(&[1 << 8, 1 << 16, 1 << 31, NONE]);
+        match self.random.below(8) {
+            0 => fields.kind = self.random.below(256) as u32,
+            1 => fields.kind |= beyond,
+            2 => fields.switch = self.random.pick(&[0, 1, 2, 3, 4, 6, 7, 8, 256, 257, 65_535]),
+            3 => fields.switch |= beyond,
+            4 => fields.instance = self.any_round(),
+            5 => fields.round = self.any_round(),
+            6 => fields.vote_round = self.any_round(),
+            _ => fields.value = self.value(),
+        }
+    }
+
     fn damage(&mut self, packet: &mut Vec<u8>) {
         match self.random.below(8) {
             0 => {

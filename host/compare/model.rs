@@ -123,7 +123,41 @@ pub fn write(message: &Message, packet: &mut [u8]) {
     packet[20..36].copy_from_slice(&message.value.to_be_bytes());
 }
 
+/// Every field is judged as it is given: what its row fixes is not mended, and a switch number that two bytes can't hold is none.
+pub fn packet_write(fields: Fields, packet: &mut [u8]) -> Answer {
+    if packet.len() != 36 {
+        return Err(1);
+    }
+    if fields.kind > 4 {
+        return Err(4);
+    }
+    if fields.switch > 65_535 {
+        return Err(5);
+    }
+    let Fields { kind, switch, instance, round, vote_round, value } = fields;
+    let message = Message { kind: kind as u8, switch: switch as u16, instance, round, vote_round, value };
+    if !keeps_table(&message) {
+        return Err(5);
+    }
+    write(&message, packet);
+    Ok(DONE)
+}
+
+pub fn packet_read(packet: &[u8], fields: &mut Fields) -> Answer {
+    let Message { kind, switch, instance, round, vote_round, value } = read(packet)?;
+    *fields = Fields { kind: kind as u32, switch: switch as u32, instance, round, vote_round, value };
+    Ok(DONE)
+}
+
 // Primary
+
+pub fn primary_fresh(settings: Settings, next: &mut Vec<u32>) -> Answer {
+    if !allowed(settings) || next.len() != 1 {
+        return Err(7);
+    }
+    next[0] = 0;
+    Ok(DONE)
+}
 
 /// The record lent by reference.
 pub fn primary_request(settings: Settings, packet: &mut [u8], next: &mut u32) -> Answer {
@@ -155,17 +189,27 @@ pub fn primary_step(settings: Settings, packet: &mut [u8], next: &mut [u32]) -> 
 
 // Acceptor
 
-fn acceptor_allowed(settings: Settings, own: u32, tables: &AcceptorTables) -> bool {
+impl AcceptorTables {
+    pub fn fresh(instances: usize) -> Self {
+        AcceptorTables { rounds: vec![0; instances], vote_rounds: vec![NONE; instances], values: vec![0; 2 * instances] }
+    }
+}
+
+fn acceptor_allowed(settings: Settings, tables: &AcceptorTables) -> bool {
     let instances = settings.instances as usize;
-    allowed(settings)
-        && own < settings.acceptors
-        && tables.rounds.len() == instances
-        && tables.vote_rounds.len() == instances
-        && tables.values.len() == 2 * instances
+    allowed(settings) && tables.rounds.len() == instances && tables.vote_rounds.len() == instances && tables.values.len() == 2 * instances
+}
+
+pub fn acceptor_fresh(settings: Settings, tables: &mut AcceptorTables) -> Answer {
+    if !acceptor_allowed(settings, tables) {
+        return Err(7);
+    }
+    *tables = AcceptorTables::fresh(settings.instances as usize);
+    Ok(DONE)
 }
 
 pub fn acceptor_step(settings: Settings, own: u32, packet: &mut [u8], tables: &mut AcceptorTables) -> Answer {
-    if !acceptor_allowed(settings, own, tables) {
+    if !acceptor_allowed(settings, tables) || own >= settings.acceptors {
         return Err(7);
     }
     let message = read(packet)?;
@@ -202,16 +246,40 @@ const IDLE: u8 = 0;
 const ASKING: u8 = 1;
 const PROPOSED: u8 = 2;
 
-fn backup_allowed(settings: Settings, own: u32, tables: &BackupTables) -> bool {
+impl BackupTables {
+    pub fn fresh(instances: usize) -> Self {
+        BackupTables {
+            rounds: vec![0; instances],
+            phases: vec![IDLE; instances],
+            sets: vec![0; instances],
+            best_vote_rounds: vec![NONE; instances],
+            best_values: vec![0; 2 * instances],
+            own_values: vec![0; 2 * instances],
+        }
+    }
+}
+
+fn backup_allowed(settings: Settings, tables: &BackupTables) -> bool {
     let instances = settings.instances as usize;
     allowed(settings)
-        && (1..=3).contains(&own)
         && tables.rounds.len() == instances
         && tables.phases.len() == instances
         && tables.sets.len() == instances
         && tables.best_vote_rounds.len() == instances
         && tables.best_values.len() == 2 * instances
         && tables.own_values.len() == 2 * instances
+}
+
+fn backup_number(own: u32) -> bool {
+    (1..=3).contains(&own)
+}
+
+pub fn backup_fresh(settings: Settings, tables: &mut BackupTables) -> Answer {
+    if !backup_allowed(settings, tables) {
+        return Err(7);
+    }
+    *tables = BackupTables::fresh(settings.instances as usize);
+    Ok(DONE)
 }
 
 fn within(set: u8, settings: Settings) -> bool {
@@ -239,7 +307,7 @@ fn possible_backup_cell(settings: Settings, own: u32, tables: &BackupTables, cel
 }
 
 pub fn backup_start(settings: Settings, own: u32, start: Start, buffer: &mut [u8], tables: &mut BackupTables) -> Answer {
-    if !backup_allowed(settings, own, tables) {
+    if !backup_allowed(settings, tables) || !backup_number(own) {
         return Err(7);
     }
     if buffer.len() != 36 {
@@ -270,7 +338,7 @@ pub fn backup_start(settings: Settings, own: u32, start: Start, buffer: &mut [u8
 }
 
 pub fn backup_step(settings: Settings, own: u32, packet: &mut [u8], tables: &mut BackupTables) -> Answer {
-    if !backup_allowed(settings, own, tables) {
+    if !backup_allowed(settings, tables) || !backup_number(own) {
         return Err(7);
     }
     let promise = read(packet)?;
@@ -312,9 +380,23 @@ pub fn backup_step(settings: Settings, own: u32, packet: &mut [u8], tables: &mut
 
 // Learner
 
+impl LearnerTables {
+    pub fn fresh(instances: usize) -> Self {
+        LearnerTables { rounds: vec![NONE; instances], sets: vec![0; instances], values: vec![0; 2 * instances] }
+    }
+}
+
 fn learner_allowed(settings: Settings, tables: &LearnerTables) -> bool {
     let instances = settings.instances as usize;
     allowed(settings) && tables.rounds.len() == instances && tables.sets.len() == instances && tables.values.len() == 2 * instances
+}
+
+pub fn learner_fresh(settings: Settings, tables: &mut LearnerTables) -> Answer {
+    if !learner_allowed(settings, tables) {
+        return Err(7);
+    }
+    *tables = LearnerTables::fresh(settings.instances as usize);
+    Ok(DONE)
 }
 
 fn possible_learner_cell(settings: Settings, tables: &LearnerTables, cell: usize) -> bool {

@@ -6,9 +6,10 @@ use crate::tables::*;
 use crate::{both, Comparison};
 
 /// Each table of a player by its number, so that one alone can be given a wrong length.
-trait Tables {
+pub trait Tables: Clone {
     const COUNT: usize;
     fn fresh(instances: usize) -> Self;
+    fn used(instances: usize) -> Self;
     fn resize(&mut self, table: usize, length: impl FnOnce(usize) -> usize);
 }
 
@@ -22,6 +23,9 @@ impl Tables for Vec<u32> {
     fn fresh(_: usize) -> Self {
         vec![0]
     }
+    fn used(_: usize) -> Self {
+        vec![1]
+    }
     fn resize(&mut self, _: usize, length: impl FnOnce(usize) -> usize) {
         resize(self, length);
     }
@@ -31,6 +35,9 @@ impl Tables for AcceptorTables {
     const COUNT: usize = 3;
     fn fresh(instances: usize) -> Self {
         AcceptorTables::fresh(instances)
+    }
+    fn used(instances: usize) -> Self {
+        AcceptorTables::used(instances)
     }
     fn resize(&mut self, table: usize, length: impl FnOnce(usize) -> usize) {
         match table {
@@ -45,6 +52,9 @@ impl Tables for BackupTables {
     const COUNT: usize = 6;
     fn fresh(instances: usize) -> Self {
         BackupTables::fresh(instances)
+    }
+    fn used(instances: usize) -> Self {
+        BackupTables::used(instances)
     }
     fn resize(&mut self, table: usize, length: impl FnOnce(usize) -> usize) {
         match table {
@@ -62,6 +72,9 @@ impl Tables for LearnerTables {
     const COUNT: usize = 3;
     fn fresh(instances: usize) -> Self {
         LearnerTables::fresh(instances)
+    }
+    fn used(instances: usize) -> Self {
+        LearnerTables::used(instances)
     }
     fn resize(&mut self, table: usize, length: impl FnOnce(usize) -> usize) {
         match table {
@@ -97,6 +110,58 @@ fn spoil<T: Tables>(inputs: &mut Inputs, settings: &mut Settings, tables: &mut T
 fn cell(rounds: &[u32], values: &[u64], instance: u32) -> Option<Cell> {
     let instance = instance as usize;
     (instance < rounds.len() && instance < values.len() / 2).then(|| (rounds[instance], value_of(values, instance)))
+}
+
+// Packets
+
+pub fn packet_write(comparison: &mut Comparison, settings: Settings) {
+    for _ in 0..16 {
+        let fields = comparison.inputs.fields(settings);
+        let buffer = comparison.inputs.buffer(36);
+        both::packet_write(comparison, (fields, buffer));
+    }
+}
+
+pub fn packet_read(comparison: &mut Comparison, settings: Settings) {
+    for _ in 0..16 {
+        let lent = comparison.inputs.fields(settings);
+        let instance = comparison.inputs.instance(settings);
+        let packet = comparison.inputs.packet(&[REQUEST, PREPARE, PROMISE, PROPOSE, VOTE], settings, instance, None);
+        both::packet_read(comparison, (packet, lent));
+    }
+}
+
+// Fresh tables
+
+/// Tables in use, mostly filled, now and then refused.
+fn fresh<T: Tables>(comparison: &mut Comparison, settings: Settings, tables: T, call: fn(&mut Comparison, (Settings, T))) {
+    for _ in 0..4 {
+        let mut input = (settings, tables.clone());
+        if comparison.inputs.random.chance(50) {
+            spoil(&mut comparison.inputs, &mut input.0, &mut input.1);
+        }
+        call(comparison, input);
+    }
+}
+
+pub fn primary_fresh(comparison: &mut Comparison, settings: Settings) {
+    let next = vec![comparison.inputs.next(settings)];
+    fresh(comparison, settings, next, both::primary_fresh);
+}
+
+pub fn acceptor_fresh(comparison: &mut Comparison, settings: Settings) {
+    let tables = comparison.inputs.acceptor_tables(settings);
+    fresh(comparison, settings, tables, both::acceptor_fresh);
+}
+
+pub fn backup_fresh(comparison: &mut Comparison, settings: Settings) {
+    let tables = comparison.inputs.backup_tables(settings, 1);
+    fresh(comparison, settings, tables, both::backup_fresh);
+}
+
+pub fn learner_fresh(comparison: &mut Comparison, settings: Settings) {
+    let tables = comparison.inputs.learner_tables(settings);
+    fresh(comparison, settings, tables, both::learner_fresh);
 }
 
 // Primary

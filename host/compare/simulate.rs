@@ -56,12 +56,19 @@ struct Run {
     seen: Seen,
 }
 
-fn number(packet: &[u8]) -> u32 {
-    u32::from_be_bytes([packet[0], packet[1], packet[2], packet[3]])
+/// Tables set fresh by their player's call.
+fn fresh<T>(settings: Settings, call: fn(Settings, &mut T) -> u32, mut tables: T) -> T {
+    assert_eq!(call(settings, &mut tables), DONE, "fresh tables with {:?}", settings);
+    tables
 }
 
-fn value(packet: &[u8]) -> u128 {
-    packet[20..36].iter().fold(0, |sum, byte| sum << 8 | *byte as u128)
+/// What a packet says that a player sent.
+fn fields(packet: &mut [u8]) -> Result<Fields, String> {
+    let mut fields = Fields { kind: 0, switch: 0, instance: 0, round: 0, vote_round: 0, value: 0 };
+    match calls::packet_read(packet, &mut fields) {
+        DONE => Ok(fields),
+        refusal => Err(format!("{:02x?} was sent, and reading refuses it by {}", packet, refusal)),
+    }
 }
 
 impl Run {
@@ -69,13 +76,16 @@ impl Run {
         let mut random = Random::new(seed);
         let settings = Settings { acceptors: random.pick(&[3, 3, 5, 7]), instances: 1 + random.below(4) as u32 };
         let instances = settings.instances as usize;
+        let acceptor = fresh(settings, calls::acceptor_fresh, AcceptorTables::used(instances));
+        let backup = fresh(settings, calls::backup_fresh, BackupTables::used(instances));
+        let learner = fresh(settings, calls::learner_fresh, LearnerTables::used(instances));
         Run {
             random,
             settings,
-            next: vec![0],
-            acceptors: vec![AcceptorTables::fresh(instances); settings.acceptors as usize],
-            backups: vec![BackupTables::fresh(instances); BACKUPS],
-            learners: vec![LearnerTables::fresh(instances); LEARNERS],
+            next: fresh(settings, calls::primary_fresh, vec![1]),
+            acceptors: vec![acceptor; settings.acceptors as usize],
+            backups: vec![backup; BACKUPS],
+            learners: vec![learner; LEARNERS],
             sent: Vec::new(),
             travelling: Vec::new(),
             votes: BTreeMap::new(),
@@ -138,8 +148,12 @@ impl Run {
 
     /// Mostly for the primary; another player refuses it.
     fn request(&mut self) -> Result<u32, String> {
-        let mut packet = b"RDE\0\0\x01\0\x09\0\0\0\0\0\0\0\0\xff\xff\xff\xff".to_vec();
-        packet.extend(self.not_null().to_be_bytes());
+        let mut packet = vec![0; 36];
+        let request = Fields { kind: 0, switch: 9, instance: 0, round: 0, vote_round: NONE, value: self.not_null() };
+        let answer = calls::packet_write(request, &mut packet);
+        if answer != DONE {
+            return Err(format!("writing {:x?} answered {}", request, answer));
+        }
         let player = if self.random.chance(95) { Player::Primary } else { self.any_player() };
         self.hand_over(player, packet)
     }
@@ -206,11 +220,11 @@ impl Run {
         }
         self.send(answer, &packet);
         match (player, answer) {
-            (Player::Acceptor(own), TO_LEARNERS) => self.record_vote(own, &packet)?,
+            (Player::Acceptor(own), TO_LEARNERS) => self.record_vote(own, fields(&mut packet)?)?,
             (Player::Backup(index), TO_ACCEPTORS) => {
-                let instance = number(&packet[8..]) as usize;
-                if value(&packet) != value_of(&self.backups[index].own_values, instance) {
-                    self.gave_way.push((instance, number(&packet[12..])));
+                let Fields { instance, round, value, .. } = fields(&mut packet)?;
+                if value != value_of(&self.backups[index].own_values, instance as usize) {
+                    self.gave_way.push((instance as usize, round));
                 }
             }
             _ => {}
@@ -230,8 +244,9 @@ impl Run {
     }
 
     /// Counted for the acceptor whose call sent it, whatever the packet says of its sender.
-    fn record_vote(&mut self, own: usize, packet: &[u8]) -> Result<(), String> {
-        let (instance, round, value) = (number(&packet[8..]) as usize, number(&packet[12..]), value(packet));
+    fn record_vote(&mut self, own: usize, vote: Fields) -> Result<(), String> {
+        let Fields { round, value, .. } = vote;
+        let instance = vote.instance as usize;
         let voters = self.votes.entry((instance, round, value)).or_insert(0);
         *voters |= 1 << own;
         if 2 * voters.count_ones() <= self.settings.acceptors {
@@ -322,7 +337,7 @@ impl Run {
         let instances = self.settings.instances as usize;
         for learner in &mut self.learners {
             let before = learner.clone();
-            let mut other = LearnerTables::fresh(instances);
+            let mut other = LearnerTables::used(instances);
             let mut saved = vec![0; 8 + 21 * instances];
             let answers = (calls::learner_save(self.settings, learner, &mut saved), calls::learner_read_saved(self.settings, &mut saved, &mut other));
             if answers != (DONE, DONE) || *learner != before || other != before {

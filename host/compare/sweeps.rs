@@ -2,6 +2,7 @@
 
 use crate::inputs::TOP_BIT;
 use crate::model::{self, Message, PREPARE, PROMISE, PROPOSE, REQUEST, VOTE};
+use crate::scenes::Tables;
 use crate::tables::*;
 use crate::{both, Comparison};
 
@@ -22,6 +23,79 @@ fn settings(comparison: &mut Comparison, call: impl Fn(&mut Comparison, Settings
     for instances in [0, 1, 255, 256, 257, 1023, 1024, 1025, 1026, 2048, 65_537] {
         call(comparison, Settings { acceptors: 3, instances });
     }
+}
+
+// Packets
+
+/// Every kind with fields of all sorts, those that its row allows and those that it does not.
+fn all_fields() -> Vec<Fields> {
+    let mut all = Vec::new();
+    for kind in 0..=5 {
+        for switch in [0, 1, 2, 3, 6, 7, 65_535, 65_536, 65_537, 65_539] {
+            for round in [0, 1, 2, 3, 4, 5, NONE] {
+                for vote_round in [NONE, 0, 1, 4, 5] {
+                    all.extend([0, 1, NONE].map(|instance| Fields { kind, switch, instance, round, vote_round, value: 0 }));
+                    all.extend([TOP_BIT, 1].map(|value| Fields { kind, switch, instance: 0, round, vote_round, value }));
+                }
+            }
+        }
+    }
+    all
+}
+
+pub fn packet_write(comparison: &mut Comparison) {
+    for fields in all_fields() {
+        both::packet_write(comparison, (fields, vec![0xee; 36]));
+        both::packet_write(comparison, (Fields { kind: fields.kind + 256, ..fields }, vec![0xee; 36]));
+    }
+    for length in 0..=80 {
+        both::packet_write(comparison, (Fields { kind: 3, switch: 0, instance: 0, round: 0, vote_round: NONE, value: 1 }, vec![0xee; length]));
+    }
+}
+
+pub fn packet_read(comparison: &mut Comparison) {
+    let lent = Fields { kind: 11, switch: 12, instance: 13, round: 14, vote_round: 15, value: 16 << 64 | 17 };
+    for Fields { kind, switch, instance, round, vote_round, value } in all_fields() {
+        both::packet_read(comparison, (packet(kind as u8, switch, instance, round, vote_round, value), lent));
+    }
+    for kind in 0..=255 {
+        both::packet_read(comparison, (packet(kind, 0, 0, 0, NONE, 1), lent));
+    }
+    for length in 0..=80 {
+        let mut bytes = packet(PROPOSE, 0, 0, 0, NONE, 1);
+        bytes.resize(length, 0);
+        both::packet_read(comparison, (bytes, lent));
+    }
+}
+
+// Fresh tables
+
+/// Tables in use, with all settings, and each of them too short or too long by itself.
+fn fresh<T: Tables>(comparison: &mut Comparison, call: fn(&mut Comparison, (Settings, T))) {
+    settings(comparison, |comparison, settings| call(comparison, (settings, T::used(settings.instances as usize))));
+    for table in 0..T::COUNT {
+        for change in [|_| 0, |right| right - 1, |right| right + 1, |right| right / 2, |right| 2 * right] {
+            let mut tables = T::used(8);
+            tables.resize(table, change);
+            call(comparison, (Settings { acceptors: 5, instances: 8 }, tables));
+        }
+    }
+}
+
+pub fn primary_fresh(comparison: &mut Comparison) {
+    fresh(comparison, both::primary_fresh);
+}
+
+pub fn acceptor_fresh(comparison: &mut Comparison) {
+    fresh(comparison, both::acceptor_fresh);
+}
+
+pub fn backup_fresh(comparison: &mut Comparison) {
+    fresh(comparison, both::backup_fresh);
+}
+
+pub fn learner_fresh(comparison: &mut Comparison) {
+    fresh(comparison, both::learner_fresh);
 }
 
 // Primary

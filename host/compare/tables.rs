@@ -26,6 +26,17 @@ pub struct Start {
     pub value: u128,
 }
 
+/// What a packet says, as wide as the calls for packets take it.
+#[derive(Clone, Copy, PartialEq, Debug)]
+pub struct Fields {
+    pub kind: u32,
+    pub switch: u32,
+    pub instance: u32,
+    pub round: u32,
+    pub vote_round: u32,
+    pub value: u128,
+}
+
 #[derive(Clone, PartialEq, Debug)]
 pub struct AcceptorTables {
     pub rounds: Vec<u32>,
@@ -50,28 +61,30 @@ pub struct LearnerTables {
     pub values: Vec<u64>,
 }
 
+// Tables of N cells that hold ones: whoever wants them fresh has them filled.
+
 impl AcceptorTables {
-    pub fn fresh(instances: usize) -> Self {
-        AcceptorTables { rounds: vec![0; instances], vote_rounds: vec![NONE; instances], values: vec![0; 2 * instances] }
+    pub fn used(instances: usize) -> Self {
+        AcceptorTables { rounds: vec![1; instances], vote_rounds: vec![1; instances], values: vec![1; 2 * instances] }
     }
 }
 
 impl BackupTables {
-    pub fn fresh(instances: usize) -> Self {
+    pub fn used(instances: usize) -> Self {
         BackupTables {
-            rounds: vec![0; instances],
-            phases: vec![0; instances],
-            sets: vec![0; instances],
-            best_vote_rounds: vec![NONE; instances],
-            best_values: vec![0; 2 * instances],
-            own_values: vec![0; 2 * instances],
+            rounds: vec![1; instances],
+            phases: vec![1; instances],
+            sets: vec![1; instances],
+            best_vote_rounds: vec![1; instances],
+            best_values: vec![1; 2 * instances],
+            own_values: vec![1; 2 * instances],
         }
     }
 }
 
 impl LearnerTables {
-    pub fn fresh(instances: usize) -> Self {
-        LearnerTables { rounds: vec![NONE; instances], sets: vec![0; instances], values: vec![0; 2 * instances] }
+    pub fn used(instances: usize) -> Self {
+        LearnerTables { rounds: vec![1; instances], sets: vec![1; instances], values: vec![1; 2 * instances] }
     }
 }
 
