@@ -1,0 +1,196 @@
+/*
+ * Each name of the header, with its number in the paper, and as what a call answers or takes: a name of another number and a call that answers another number
+ * both fail here. host/tests/header-names holds the rows to the header: no name is left out.
+ */
+#include "cases.h"
+
+#define NUMBER(name, number) expect((name) == UINT64_C(number), #name " is " #number)
+#define ANSWER(name, call) expect((call) == (name), #name " is answered by " #call)
+#define TAKEN(name, holds) expect((holds), #name " is taken by the calls")
+
+/* The paper's numbers; where the paper has none, for verdicts, those of docs/DECISIONS.md. */
+static void numbers(void)
+{
+    NUMBER(MYRTHAKEL_NONE, 4294967295);
+    NUMBER(MYRTHAKEL_PACKET_LENGTH, 36);
+    NUMBER(MYRTHAKEL_VALUE_LENGTH, 16);
+    NUMBER(MYRTHAKEL_SAVED_LENGTH(1), 29);
+    NUMBER(MYRTHAKEL_SAVED_LENGTH(1024), 21512);
+    NUMBER(MYRTHAKEL_REQUEST, 0);
+    NUMBER(MYRTHAKEL_PREPARE, 1);
+    NUMBER(MYRTHAKEL_PROMISE, 2);
+    NUMBER(MYRTHAKEL_PROPOSE, 3);
+    NUMBER(MYRTHAKEL_VOTE, 4);
+    NUMBER(MYRTHAKEL_TO_ACCEPTORS, 101);
+    NUMBER(MYRTHAKEL_TO_LEADER, 102);
+    NUMBER(MYRTHAKEL_TO_LEARNERS, 103);
+    NUMBER(MYRTHAKEL_HOLD, 104);
+    NUMBER(MYRTHAKEL_DECIDED, 105);
+    NUMBER(MYRTHAKEL_DONE, 106);
+    NUMBER(MYRTHAKEL_NOT_YET, 107);
+    NUMBER(MYRTHAKEL_NO_HOLE, 108);
+    NUMBER(MYRTHAKEL_WRONG_LENGTH, 1);
+    NUMBER(MYRTHAKEL_WRONG_MARK, 2);
+    NUMBER(MYRTHAKEL_WRONG_VERSION, 3);
+    NUMBER(MYRTHAKEL_UNKNOWN_TYPE, 4);
+    NUMBER(MYRTHAKEL_BROKEN_FIELD, 5);
+    NUMBER(MYRTHAKEL_WRONG_KIND, 6);
+    NUMBER(MYRTHAKEL_NOT_ALLOWED, 7);
+    NUMBER(MYRTHAKEL_INSTANCE_BEYOND, 8);
+    NUMBER(MYRTHAKEL_SENDER_BEYOND, 9);
+    NUMBER(MYRTHAKEL_ROUND_BELOW, 10);
+    NUMBER(MYRTHAKEL_NOT_ASKED, 11);
+    NUMBER(MYRTHAKEL_NO_INSTANCE_LEFT, 12);
+    NUMBER(MYRTHAKEL_OTHER_VALUE, 13);
+    NUMBER(MYRTHAKEL_ALREADY_DECIDED, 14);
+    NUMBER(MYRTHAKEL_ALREADY_COUNTED, 15);
+    NUMBER(MYRTHAKEL_NO_ROUND_LEFT, 16);
+    NUMBER(MYRTHAKEL_IMPOSSIBLE_CELL, 17);
+}
+
+/* One depot, all players fresh. */
+
+static uint32_t next, acceptor_rounds[N], vote_rounds[N], backup_rounds[N], best_vote_rounds[N], learner_rounds[N];
+static uint64_t acceptor_values[2 * N], best_values[2 * N], own_values[2 * N], learner_values[2 * N];
+static uint8_t phases[N], promisers[N], voters[N], packet[MYRTHAKEL_PACKET_LENGTH];
+
+static void make_fresh(void)
+{
+    ANSWER(MYRTHAKEL_DONE, myrthakel_primary_fresh(M, N, &next, 1));
+    ANSWER(MYRTHAKEL_DONE, myrthakel_acceptor_fresh(M, N, acceptor_rounds, N, vote_rounds, N, acceptor_values, 2 * N));
+    ANSWER(MYRTHAKEL_DONE, myrthakel_backup_fresh(M, N, backup_rounds, N, phases, N, promisers, N, best_vote_rounds, N, best_values, 2 * N, own_values, 2 * N));
+    ANSWER(MYRTHAKEL_DONE, myrthakel_learner_fresh(M, N, learner_rounds, N, voters, N, learner_values, 2 * N));
+}
+
+/* The type, byte 3, of a packet of this kind from number 1. */
+static int type_written(uint32_t kind, uint32_t round, uint32_t vote_round, uint64_t low)
+{
+    memset(packet, 0xee, sizeof packet);
+    return myrthakel_packet_write(kind, 1, 0, round, vote_round, 0, low, packet, MYRTHAKEL_PACKET_LENGTH) == 106 ? packet[3] : -1;
+}
+
+static void kinds(void)
+{
+    TAKEN(MYRTHAKEL_REQUEST, type_written(MYRTHAKEL_REQUEST, 0, MYRTHAKEL_NONE, 0x2a) == 0);
+    TAKEN(MYRTHAKEL_PREPARE, type_written(MYRTHAKEL_PREPARE, 1, MYRTHAKEL_NONE, 0) == 1);
+    TAKEN(MYRTHAKEL_PROMISE, type_written(MYRTHAKEL_PROMISE, 1, 0, 0x2a) == 2);
+    TAKEN(MYRTHAKEL_PROPOSE, type_written(MYRTHAKEL_PROPOSE, 1, MYRTHAKEL_NONE, 0x2a) == 3);
+    TAKEN(MYRTHAKEL_VOTE, type_written(MYRTHAKEL_VOTE, 1, 1, 0x2a) == 4);
+}
+
+/* The packet as one byte of it is set, to the primary of M acceptors. */
+static uint32_t request(uint32_t acceptors, size_t at, uint8_t byte)
+{
+    make(packet, 0, 9, 0, 0, MYRTHAKEL_NONE, 0x2a);
+    packet[at] = byte;
+    return myrthakel_primary_step(acceptors, N, packet, MYRTHAKEL_PACKET_LENGTH, &next, 1);
+}
+
+static uint32_t good_request(uint32_t record)
+{
+    next = record;
+    return request(M, 35, 0x2a);
+}
+
+static uint32_t to_acceptor(size_t length)
+{
+    return myrthakel_acceptor_step(M, N, 0, packet, length, acceptor_rounds, N, vote_rounds, N, acceptor_values, 2 * N);
+}
+
+static uint32_t propose(uint32_t instance, size_t length)
+{
+    make(packet, 3, 0, instance, 0, MYRTHAKEL_NONE, 0x2a);
+    return to_acceptor(length);
+}
+
+static uint32_t prepare(void)
+{
+    make(packet, 1, 1, 0, 1, MYRTHAKEL_NONE, 0);
+    return to_acceptor(MYRTHAKEL_PACKET_LENGTH);
+}
+
+static uint32_t start(uint32_t floor)
+{
+    return myrthakel_backup_start(M, N, 1, 0, floor, 0, 0x2a, packet, MYRTHAKEL_PACKET_LENGTH, backup_rounds, N, phases, N, promisers, N,
+                                  best_vote_rounds, N, best_values, 2 * N, own_values, 2 * N);
+}
+
+static uint32_t promise(void)
+{
+    make(packet, 2, 0, 0, 1, MYRTHAKEL_NONE, 0);
+    return myrthakel_backup_step(M, N, 1, packet, MYRTHAKEL_PACKET_LENGTH, backup_rounds, N, phases, N, promisers, N,
+                                 best_vote_rounds, N, best_values, 2 * N, own_values, 2 * N);
+}
+
+static uint32_t vote(uint32_t sender, uint8_t last)
+{
+    make(packet, 4, sender, 0, 0, 0, last);
+    return myrthakel_learner_step(M, N, packet, MYRTHAKEL_PACKET_LENGTH, learner_rounds, N, voters, N, learner_values, 2 * N);
+}
+
+static uint32_t answer(uint32_t instance)
+{
+    uint64_t high, low;
+    return myrthakel_learner_answer(M, N, instance, learner_rounds, N, voters, N, learner_values, 2 * N, &high, &low);
+}
+
+static uint32_t first_hole(void)
+{
+    uint32_t instance;
+    return myrthakel_learner_first_hole(M, N, learner_rounds, N, voters, N, learner_values, 2 * N, &instance);
+}
+
+static uint32_t deliver(size_t length)
+{
+    uint8_t buffer[16 * N];
+    uint32_t count;
+    return myrthakel_learner_deliver(M, N, learner_rounds, N, voters, N, learner_values, 2 * N, buffer, length, &count);
+}
+
+static uint32_t save(size_t length)
+{
+    uint8_t buffer[8 + 21 * N];
+    return myrthakel_learner_save(M, N, learner_rounds, N, voters, N, learner_values, 2 * N, buffer, length);
+}
+
+static void answers(void)
+{
+    make_fresh();
+    ANSWER(MYRTHAKEL_WRONG_MARK, request(M, 0, 0));
+    ANSWER(MYRTHAKEL_WRONG_VERSION, request(M, 5, 2));
+    ANSWER(MYRTHAKEL_UNKNOWN_TYPE, request(M, 3, 5));
+    ANSWER(MYRTHAKEL_BROKEN_FIELD, request(M, 11, 1));
+    ANSWER(MYRTHAKEL_NOT_ALLOWED, request(4, 35, 0x2a));
+    ANSWER(MYRTHAKEL_TO_ACCEPTORS, good_request(0));
+    ANSWER(MYRTHAKEL_NO_INSTANCE_LEFT, good_request(N));
+    ANSWER(MYRTHAKEL_IMPOSSIBLE_CELL, good_request(N + 1));
+    ANSWER(MYRTHAKEL_WRONG_LENGTH, propose(0, 35));
+    ANSWER(MYRTHAKEL_INSTANCE_BEYOND, propose(N, 36));
+    ANSWER(MYRTHAKEL_TO_LEADER, prepare());
+    TAKEN(MYRTHAKEL_NONE, packet[16] == 255 && packet[17] == 255 && packet[18] == 255 && packet[19] == 255);
+    ANSWER(MYRTHAKEL_ROUND_BELOW, propose(0, 36));
+    ANSWER(MYRTHAKEL_TO_LEARNERS, propose(1, 36));
+    ANSWER(MYRTHAKEL_WRONG_KIND, to_acceptor(36));
+    ANSWER(MYRTHAKEL_NOT_ASKED, promise());
+    ANSWER(MYRTHAKEL_NO_ROUND_LEFT, start(MYRTHAKEL_NONE));
+    ANSWER(MYRTHAKEL_NOT_YET, answer(0));
+    ANSWER(MYRTHAKEL_NO_HOLE, first_hole());
+    ANSWER(MYRTHAKEL_HOLD, vote(0, 0x2a));
+    ANSWER(MYRTHAKEL_SENDER_BEYOND, vote(M, 0x2a));
+    ANSWER(MYRTHAKEL_OTHER_VALUE, vote(1, 0x2b));
+    ANSWER(MYRTHAKEL_ALREADY_COUNTED, vote(0, 0x2a));
+    ANSWER(MYRTHAKEL_DECIDED, vote(2, 0x2a));
+    ANSWER(MYRTHAKEL_ALREADY_DECIDED, vote(1, 0x2a));
+    ANSWER(MYRTHAKEL_DONE, answer(0));
+    TAKEN(MYRTHAKEL_PACKET_LENGTH, propose(2, MYRTHAKEL_PACKET_LENGTH) == 103);
+    TAKEN(MYRTHAKEL_VALUE_LENGTH, deliver(MYRTHAKEL_VALUE_LENGTH * N) == 106);
+    TAKEN(MYRTHAKEL_SAVED_LENGTH, save(MYRTHAKEL_SAVED_LENGTH(N)) == 106);
+}
+
+int main(void)
+{
+    numbers();
+    kinds();
+    answers();
+    return told();
+}
