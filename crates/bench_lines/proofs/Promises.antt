@@ -14,8 +14,9 @@ use Rattle.basics.proofs.Ladder.{by-test, if-elim, need-elim, both-true}
 use Rattle.bench_lines.specs.declared.Command.{Command}
 use Rattle.bench_lines.specs.declared.Command.the-variants.{Primary, Acceptor, Backup, Learner, Start, Bad}
 use Rattle.bench_lines.specs.Line.{space, firstWord, restOf, digitOf, areDigits, isHex, bytesOf, numberOf, isDecimal, valueOf}
+use Rattle.bench_lines.specs.Line.{primaryLetter, acceptorLetter, backupLetter, learnerLetter, startLetter}
 use Rattle.bench_lines.specs.Line.{isLetter, isNumbered, ownOf, playerOf, isBad, startWith, startOf, Meaning, meaning, meaningOf}
-use Rattle.bench_lines.specs.Promises.{digitByte, PlayerName, p, a, b, l, Form, packet-line, start-line, CommandExactly, BadKeepsBuffer, LongIsBad}
+use Rattle.bench_lines.specs.Promises.{digitByte, PlayerName, the-primary, an-acceptor, a-backup, the-learner, Form, packet-line, start-line, CommandExactly, BadKeepsBuffer, LongIsBad}
 use Rattle.bench_lines.proofs.Words.{word-ends, rest-begins, word-goes-on, rest-later}
 use Rattle.bench_lines.proofs.Digits.{hex-brings, decimal-brings, decimal-digits}
 
@@ -52,25 +53,25 @@ record Named (name rest : List ℕ) (player : Command) : Type 0 where
 
 named-so : (name rest : List ℕ) (player : Command) → PlayerName name player → Named name rest player
 unfolding firstWord restOf playerOf isLetter isNumbered digitOf isBad if_then_else_
-named-so name rest player p = record { first = refl; behind = refl; named = refl; fine = refl; short = omega arith }
-named-so name rest player (a zero most) = record { first = refl; behind = refl; named = refl; fine = refl; short = omega arith }
-named-so name rest player (a (suc zero) most) = record { first = refl; behind = refl; named = refl; fine = refl; short = omega arith }
-named-so name rest player (a (suc (suc zero)) most) = record { first = refl; behind = refl; named = refl; fine = refl; short = omega arith }
-named-so name rest player (a (suc (suc (suc own))) most) = absurd (omega arith)
-named-so name rest player (b zero least most) = absurd (omega arith)
-named-so name rest player (b (suc zero) least most) = record { first = refl; behind = refl; named = refl; fine = refl; short = omega arith }
-named-so name rest player (b (suc (suc zero)) least most) = record { first = refl; behind = refl; named = refl; fine = refl; short = omega arith }
-named-so name rest player (b (suc (suc (suc zero))) least most) = record { first = refl; behind = refl; named = refl; fine = refl; short = omega arith }
-named-so name rest player (b (suc (suc (suc (suc own)))) least most) = absurd (omega arith)
-named-so name rest player l = record { first = refl; behind = refl; named = refl; fine = refl; short = omega arith }
+named-so name rest player the-primary = record { first = refl; behind = refl; named = refl; fine = refl; short = omega arith }
+named-so name rest player (an-acceptor zero most) = record { first = refl; behind = refl; named = refl; fine = refl; short = omega arith }
+named-so name rest player (an-acceptor (suc zero) most) = record { first = refl; behind = refl; named = refl; fine = refl; short = omega arith }
+named-so name rest player (an-acceptor (suc (suc zero)) most) = record { first = refl; behind = refl; named = refl; fine = refl; short = omega arith }
+named-so name rest player (an-acceptor (suc (suc (suc own))) most) = absurd (omega arith)
+named-so name rest player (a-backup zero least most) = absurd (omega arith)
+named-so name rest player (a-backup (suc zero) least most) = record { first = refl; behind = refl; named = refl; fine = refl; short = omega arith }
+named-so name rest player (a-backup (suc (suc zero)) least most) = record { first = refl; behind = refl; named = refl; fine = refl; short = omega arith }
+named-so name rest player (a-backup (suc (suc (suc zero))) least most) = record { first = refl; behind = refl; named = refl; fine = refl; short = omega arith }
+named-so name rest player (a-backup (suc (suc (suc (suc own)))) least most) = absurd (omega arith)
+named-so name rest player the-learner = record { first = refl; behind = refl; named = refl; fine = refl; short = omega arith }
 
 -- what s1 to s3 are, where something stands behind them
 record Starter (own : ℕ) (rest : List ℕ) : Type 0 where
-  first : firstWord (115 ∷ digitByte own ∷ space ∷ rest) ≡ 115 ∷ digitByte own ∷ []
-  behind : restOf (115 ∷ digitByte own ∷ space ∷ rest) ≡ rest
-  no-player : isBad (playerOf (115 ∷ digitByte own ∷ [])) ≡ true
-  starter : isNumbered 115 1 3 (115 ∷ digitByte own ∷ []) ≡ true
-  number : ownOf (115 ∷ digitByte own ∷ []) ≡ own
+  first : firstWord (startLetter ∷ digitByte own ∷ space ∷ rest) ≡ startLetter ∷ digitByte own ∷ []
+  behind : restOf (startLetter ∷ digitByte own ∷ space ∷ rest) ≡ rest
+  no-player : isBad (playerOf (startLetter ∷ digitByte own ∷ [])) ≡ true
+  starter : isNumbered startLetter 1 3 (startLetter ∷ digitByte own ∷ []) ≡ true
+  number : ownOf (startLetter ∷ digitByte own ∷ []) ≡ own
 
 starter-so : (own : ℕ) (rest : List ℕ) → 1 ≤ own → own ≤ 3 → Starter own rest
 unfolding firstWord restOf playerOf isLetter isNumbered digitOf isBad if_then_else_
@@ -163,16 +164,16 @@ module _ (name : List ℕ) where
   player-named : namedIf (playerOf name)
   unfolding playerOf isBad
   player-named =
-      if-elim namedIf (isLetter 112 name) _ _ (λ test _. rw (letter-alone 112 name test) p)
-      (λ _. if-elim namedIf (isNumbered 97 0 2 name) _ _
+      if-elim namedIf (isLetter primaryLetter name) _ _ (λ test _. rw (letter-alone primaryLetter name test) the-primary)
+      (λ _. if-elim namedIf (isNumbered acceptorLetter 0 2 name) _ _
       (λ test _.
-      let so = numbered-so 97 0 2 name (omega arith) test in
-      subst (λ n. PlayerName n (Acceptor (ownOf name))) (sym (so .written)) (a (ownOf name) (so .most)))
-      (λ _. if-elim namedIf (isNumbered 98 1 3 name) _ _
+      let so = numbered-so acceptorLetter 0 2 name (omega arith) test in
+      subst (λ n. PlayerName n (Acceptor (ownOf name))) (sym (so .written)) (an-acceptor (ownOf name) (so .most)))
+      (λ _. if-elim namedIf (isNumbered backupLetter 1 3 name) _ _
       (λ test _.
-      let so = numbered-so 98 1 3 name (omega arith) test in
-      subst (λ n. PlayerName n (Backup (ownOf name))) (sym (so .written)) (b (ownOf name) (so .least) (so .most)))
-      (λ _. if-elim namedIf (isLetter 108 name) _ _ (λ test _. rw (letter-alone 108 name test) l) (λ _ fine. absurd (false≢true (sym fine))))))
+      let so = numbered-so backupLetter 1 3 name (omega arith) test in
+      subst (λ n. PlayerName n (Backup (ownOf name))) (sym (so .written)) (a-backup (ownOf name) (so .least) (so .most)))
+      (λ _. if-elim namedIf (isLetter learnerLetter name) _ _ (λ test _. rw (letter-alone learnerLetter name test) the-learner) (λ _ fine. absurd (false≢true (sym fine))))))
 
 module _ (line buffer : List ℕ) where
   abbrev formed : Meaning → Type 0
@@ -202,17 +203,17 @@ module _ (line buffer : List ℕ) where
       let instance = firstWord rest in
       let floor = firstWord (restOf rest) in
       let value = restOf (restOf rest) in
-      need-elim startFormed (isNumbered 115 1 3 name) _ _ bad-has-none
+      need-elim startFormed (isNumbered startLetter 1 3 name) _ _ bad-has-none
       (λ starter. need-elim startFormed (isDecimal instance) _ _ bad-has-none
       (λ instance-so. need-elim startFormed (isDecimal floor) _ _ bad-has-none
       (λ floor-so. need-elim startFormed (isHex 32 value) _ _ bad-has-none
       (λ value-so _.
-      let so = numbered-so 115 1 3 name (omega arith) starter in
+      let so = numbered-so startLetter 1 3 name (omega arith) starter in
       subst (λ bytes. Form buffer bytes (meaning (Start (ownOf name) (numberOf instance) (numberOf floor) (valueOf value)) buffer)) (start-joined value-so (so .written))
       (start-line (ownOf name) (so .least) (so .most) instance floor value instance-so floor-so value-so)))))
     where
-      start-joined : isHex 32 (restOf (restOf rest)) ≡ true → name ≡ 115 ∷ digitByte (ownOf name) ∷ []
-          → 115 ∷ digitByte (ownOf name) ∷ space ∷ (firstWord rest ++ (space ∷ (firstWord (restOf rest) ++ (space ∷ restOf (restOf rest))))) ≡ line
+      start-joined : isHex 32 (restOf (restOf rest)) ≡ true → name ≡ startLetter ∷ digitByte (ownOf name) ∷ []
+          → startLetter ∷ digitByte (ownOf name) ∷ space ∷ (firstWord rest ++ (space ∷ (firstWord (restOf rest) ++ (space ∷ restOf (restOf rest))))) ≡ line
       start-joined value-so written =
           let third = joined (restOf rest) (omega (arith, hex-brings 32 (restOf (restOf rest)) value-so .0)) in
           let second = joined rest (longer (restOf rest) (omega (arith, hex-brings 32 (restOf (restOf rest)) value-so .0))) in

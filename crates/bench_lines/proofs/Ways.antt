@@ -15,6 +15,7 @@ use Rattle.bench_lines.specs.declared.Command.{Command}
 use Rattle.bench_lines.proofs.Command.{the-type}
 use Rattle.bench_lines.specs.declared.Command.the-variants.{Primary, Acceptor, Backup, Learner, Start, Bad}
 use Rattle.bench_lines.specs.Line.{firstWord, restOf, areDigits, isHex, bytesOf, numberOf, isDecimal, valueOf}
+use Rattle.bench_lines.specs.Line.{primaryLetter, acceptorLetter, backupLetter, learnerLetter, startLetter}
 use Rattle.bench_lines.specs.Line.{isLetter, isNumbered, ownOf, isBad, playerOf, startWith, startOf, meaning, meaningOf}
 
 -- ---- a command that is none
@@ -52,23 +53,23 @@ module _ (text : List ℕ) where
 
 -- ---- a player's name: p, a0 to a2, b1 to b3, l
 
-module _ (name : List ℕ) (test : Bool) (tested : test ≡ isLetter 112 name) where
+module _ (name : List ℕ) (test : Bool) (tested : test ≡ isLetter primaryLetter name) where
   pub names-primary : test ≡ true → Primary ≡ playerOf name
   unfolding playerOf
   names-primary yes-so = sym (if-true _ _ (sym tested ∙ yes-so))
 
-  module _ (not-p : test ≡ false) (test₂ : Bool) (tested₂ : test₂ ≡ isNumbered 97 0 2 name) where
+  module _ (not-p : test ≡ false) (test₂ : Bool) (tested₂ : test₂ ≡ isNumbered acceptorLetter 0 2 name) where
     pub names-acceptor : test₂ ≡ true → (own : ℕ) → own ≡ ownOf name → Acceptor own ≡ playerOf name
     unfolding playerOf
     names-acceptor yes-so own own-so = ap Acceptor own-so ∙ sym (if-false _ _ (sym tested ∙ not-p) ∙ if-true _ _ (sym tested₂ ∙ yes-so))
 
-    module _ (not-a : test₂ ≡ false) (test₃ : Bool) (tested₃ : test₃ ≡ isNumbered 98 1 3 name) where
+    module _ (not-a : test₂ ≡ false) (test₃ : Bool) (tested₃ : test₃ ≡ isNumbered backupLetter 1 3 name) where
       pub names-backup : test₃ ≡ true → (own : ℕ) → own ≡ ownOf name → Backup own ≡ playerOf name
       unfolding playerOf
       names-backup yes-so own own-so =
           ap Backup own-so ∙ sym (if-false _ _ (sym tested ∙ not-p) ∙ if-false _ _ (sym tested₂ ∙ not-a) ∙ if-true _ _ (sym tested₃ ∙ yes-so))
 
-      module _ (not-b : test₃ ≡ false) (test₄ : Bool) (tested₄ : test₄ ≡ isLetter 108 name) where
+      module _ (not-b : test₃ ≡ false) (test₄ : Bool) (tested₄ : test₄ ≡ isLetter learnerLetter name) where
         past : (command : Command) → (if test₄ then Learner else Bad) ≡ command → command ≡ playerOf name
         unfolding playerOf
         past command last =
@@ -83,7 +84,7 @@ module _ (name : List ℕ) (test : Bool) (tested : test ≡ isLetter 112 name) w
 
 -- ---- a start
 
-module _ (name instance floor value : List ℕ) (test : Bool) (tested : test ≡ isNumbered 115 1 3 name) where
+module _ (name instance floor value : List ℕ) (test : Bool) (tested : test ≡ isNumbered startLetter 1 3 name) where
   pub no-starter : not test ≡ true → Bad ≡ startWith name instance floor value
   unfolding startWith need_or_then_
   no-starter no-so = rw (← tested, not-true test no-so)

@@ -13,10 +13,32 @@ use Rattle.basics.specs.declared.Value.{Value}
 use Rattle.bench_lines.specs.declared.Command.{Command}
 use Rattle.bench_lines.specs.declared.Command.the-variants.{Primary, Acceptor, Backup, Learner, Start, Bad}
 
--- ---- words: a space ends one
+-- ---- the bytes that have a meaning, besides digits
 
 abbrev pub space : ℕ
 space = 32
+
+-- p
+abbrev pub primaryLetter : ℕ
+primaryLetter = 112
+
+-- a
+abbrev pub acceptorLetter : ℕ
+acceptorLetter = 97
+
+-- b
+abbrev pub backupLetter : ℕ
+backupLetter = 98
+
+-- l
+abbrev pub learnerLetter : ℕ
+learnerLetter = 108
+
+-- s
+abbrev pub startLetter : ℕ
+startLetter = 115
+
+-- ---- words: a space ends one
 
 unfoldable pub firstWord : (line : List ℕ) → List ℕ
 firstWord [] = []
@@ -82,13 +104,13 @@ ownOf name = digitOf (getD name 1 0)
 unfoldable pub isNumbered : (letter first last : ℕ) → (name : List ℕ) → Bool
 isNumbered letter first last name = eqb (length name) 2 && eqb (getD name 0 0) letter && leb first (ownOf name) && leb (ownOf name) last
 
--- p, a0 to a2, b1 to b3, l: 112, 97, 98 and 108 are the letters.
+-- p, a0 to a2, b1 to b3, l
 unfoldable pub playerOf : (name : List ℕ) → Command
 playerOf name =
-    if isLetter 112 name then Primary
-    else if isNumbered 97 0 2 name then Acceptor (ownOf name)
-    else if isNumbered 98 1 3 name then Backup (ownOf name)
-    else if isLetter 108 name then Learner
+    if isLetter primaryLetter name then Primary
+    else if isNumbered acceptorLetter 0 2 name then Acceptor (ownOf name)
+    else if isNumbered backupLetter 1 3 name then Backup (ownOf name)
+    else if isLetter learnerLetter name then Learner
     else Bad
 
 unfoldable pub isBad : Command → Bool
@@ -101,10 +123,10 @@ isBad (Start own instance floor value) = false
 
 -- ---- lines
 
--- s1 to s3 (115 is the letter), two decimal 32-bit numbers, 32 hex digits.
+-- s1 to s3, two decimal 32-bit numbers, 32 hex digits.
 unfoldable pub startWith : (name instance floor value : List ℕ) → Command
 startWith name instance floor value =
-    need isNumbered 115 1 3 name or Bad then
+    need isNumbered startLetter 1 3 name or Bad then
     need isDecimal instance or Bad then
     need isDecimal floor or Bad then
     need isHex 32 value or Bad then

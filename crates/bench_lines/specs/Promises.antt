@@ -8,6 +8,7 @@ use mathlib.Core.List.{List, [], _∷_, _++_}
 use lib.ListN.{length}
 use Rattle.bench_lines.specs.declared.Command.{Command}
 use Rattle.bench_lines.specs.declared.Command.the-variants.{Primary, Acceptor, Backup, Learner, Start, Bad}
+use Rattle.bench_lines.specs.Line.{primaryLetter, acceptorLetter, backupLetter, learnerLetter, startLetter}
 use Rattle.bench_lines.specs.Line.{space, isHex, bytesOf, numberOf, isDecimal, valueOf, isBad, Meaning, meaning, meaningOf}
 
 -- The byte of a decimal digit.
@@ -16,10 +17,10 @@ digitByte number = 48 + number
 
 -- p, a0 to a2, b1 to b3, l
 pub data PlayerName : (name : List ℕ) → Command → Type 0 where
-  p : PlayerName (112 ∷ []) Primary
-  a : (own : ℕ) → own ≤ 2 → PlayerName (97 ∷ digitByte own ∷ []) (Acceptor own)
-  b : (own : ℕ) → 1 ≤ own → own ≤ 3 → PlayerName (98 ∷ digitByte own ∷ []) (Backup own)
-  l : PlayerName (108 ∷ []) Learner
+  the-primary : PlayerName (primaryLetter ∷ []) Primary
+  an-acceptor : (own : ℕ) → own ≤ 2 → PlayerName (acceptorLetter ∷ digitByte own ∷ []) (Acceptor own)
+  a-backup : (own : ℕ) → 1 ≤ own → own ≤ 3 → PlayerName (backupLetter ∷ digitByte own ∷ []) (Backup own)
+  the-learner : PlayerName (learnerLetter ∷ []) Learner
 
 -- The forms of a line, with what each means where the buffer is lent.
 pub data Form (buffer : List ℕ) : (line : List ℕ) → Meaning → Type 0 where
@@ -28,7 +29,8 @@ pub data Form (buffer : List ℕ) : (line : List ℕ) → Meaning → Type 0 whe
       → Form buffer (name ++ (space ∷ digits)) (meaning player (bytesOf digits))
   -- s1 to s3, and behind a space each two decimal 32-bit numbers and 32 hex digits
   start-line : (own : ℕ) → 1 ≤ own → own ≤ 3 → (instance floor value : List ℕ) → isDecimal instance ≡ true → isDecimal floor ≡ true → isHex 32 value ≡ true
-      → Form buffer (115 ∷ digitByte own ∷ space ∷ (instance ++ (space ∷ (floor ++ (space ∷ value))))) (meaning (Start own (numberOf instance) (numberOf floor) (valueOf value)) buffer)
+      → Form buffer (startLetter ∷ digitByte own ∷ space ∷ (instance ++ (space ∷ (floor ++ (space ∷ value)))))
+      (meaning (Start own (numberOf instance) (numberOf floor) (valueOf value)) buffer)
 
 -- A line is a command exactly if it has one of the forms, and then the one that the form names.
 abbrev pub CommandExactly : Type 0

@@ -190,4 +190,5 @@ every-call = record {
   of-store-saved = λ _ _ _ _ _ _. seen (λ t. (t .rounds, t .sets, t .values));
   of-learner-save = (λ _ _ _ _ _ _. seen (λ o. o .answer), λ _ _ _ _ _ _. seen (λ o. o .left .packet));
   of-learner-read-saved = (λ _ _ _ _ _ _. seen (λ o. o .answer), λ _ _ _ _ _ _. seen (λ o. (o .left .tables .rounds, o .left .tables .sets, o .left .tables .values)));
+  of-command-of = (λ _ _ _ _ _ _. seen (λ o. o .command), λ _ _ _ _ _ _. seen (λ o. o .packet));
 }

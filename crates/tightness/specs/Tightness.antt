@@ -105,6 +105,7 @@ use Rattle.learner_file.proofs.saved_possible.Reads as saved-possible
 use Rattle.learner_file.proofs.store_saved.Reads as store-saved
 use Rattle.learner_saved.proofs.myrthakel_learner_save.Reads as learner-save
 use Rattle.learner_saved.proofs.myrthakel_learner_read_saved.Reads as learner-read-saved
+use Rattle.bench_lines.proofs.command_of.Reads as command-of
 
 -- Two outcomes on the same arguments that both keep the promise, each an answer and the parameters at exit, have the same answer
 abbrev pub OneAnswer : {Lifetimes : Type 0} {Entry Answer Exit : Lifetimes → Type 0} → (promise : (κs : Lifetimes) → Entry κs → Answer κs → Exit κs → Type 0) → Type 0
@@ -266,3 +267,5 @@ pub record EveryCall : Type 0 where
   -- learner_saved
   pub of-learner-save : OneAnswer learner-save.Learnt × OneContent learner-save.Learnt (λ κs exit. held-1 (exit .1 .1 .1 .1 .1))
   pub of-learner-read-saved : OneAnswer learner-read-saved.Learnt × OneContent learner-read-saved.Learnt (λ κs exit. held-3 (exit .1 .1 .1))
+  -- bench_lines
+  pub of-command-of : OneAnswer command-of.Learnt × OneContent command-of.Learnt (λ κs exit. held-1 (exit .1))
