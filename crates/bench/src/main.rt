@@ -1,7 +1,6 @@
 // The bench: one depot with M = 3 and N = 1,024, all players fresh, driven by lines of standard input. The tables are arrays of `main`, which lends a player
 // its own where a line is for it: each function that is handed many tables is dear to check.
-ghost use mathlib.Core.Path.{_≡_};
-ghost use Rattle.bench.specs.Bench.{freshVoteRounds};
+ghost use Prim.Native.Nat.{_<_};
 use basics::Value;
 use basics::Verdict;
 use bench_lines::Command;
@@ -202,11 +201,100 @@ fn print_line(command: Command, answer: u32, packet: &[u8; 36]) {
 
 // ---- the players: like players' tables of one kind are an array, with a table for each
 
-// "each of 1,024 cells starts with the never-voted mark"
-fn fresh_vote_rounds() -> [u32; 1024]
-    ensures { λ r. ⌜ r ≡ freshVoteRounds ⌝ }
+// M, N and the sizes are allowed, so each call that sets tables fresh answers "done".
+fn set_primary_fresh(next: &mut [u32; 1]) {
+    primary::myrthakel_primary_fresh(ACCEPTORS, INSTANCES, next);
+}
+
+fn set_acceptor_fresh(
+    at: usize,
+    rounds: &mut [[u32; 1024]; 3],
+    vote_rounds: &mut [[u32; 1024]; 3],
+    values: &mut [[u64; 2048]; 3],
+)
+    requires { ⌜ at < 3 ⌝ }
 {
-    [basics::NONE; 1024]
+    acceptor_tables::myrthakel_acceptor_fresh(
+        ACCEPTORS,
+        INSTANCES,
+        &mut rounds[at],
+        &mut vote_rounds[at],
+        &mut values[at],
+    );
+}
+
+fn set_acceptors_fresh(
+    rounds: &mut [[u32; 1024]; 3],
+    vote_rounds: &mut [[u32; 1024]; 3],
+    values: &mut [[u64; 2048]; 3],
+) {
+    set_acceptor_fresh(0, rounds, vote_rounds, values);
+    set_acceptor_fresh(1, rounds, vote_rounds, values);
+    set_acceptor_fresh(2, rounds, vote_rounds, values);
+}
+
+fn set_backup_fresh(
+    at: usize,
+    rounds: &mut [[u32; 1024]; 3],
+    phases: &mut [[u8; 1024]; 3],
+    sets: &mut [[u8; 1024]; 3],
+    best_vote_rounds: &mut [[u32; 1024]; 3],
+    best_values: &mut [[u64; 2048]; 3],
+    own_values: &mut [[u64; 2048]; 3],
+)
+    requires { ⌜ at < 3 ⌝ }
+{
+    backup_tables::myrthakel_backup_fresh(
+        ACCEPTORS,
+        INSTANCES,
+        &mut rounds[at],
+        &mut phases[at],
+        &mut sets[at],
+        &mut best_vote_rounds[at],
+        &mut best_values[at],
+        &mut own_values[at],
+    );
+}
+
+fn set_backups_fresh(
+    rounds: &mut [[u32; 1024]; 3],
+    phases: &mut [[u8; 1024]; 3],
+    sets: &mut [[u8; 1024]; 3],
+    best_vote_rounds: &mut [[u32; 1024]; 3],
+    best_values: &mut [[u64; 2048]; 3],
+    own_values: &mut [[u64; 2048]; 3],
+) {
+    set_backup_fresh(
+        0,
+        rounds,
+        phases,
+        sets,
+        best_vote_rounds,
+        best_values,
+        own_values,
+    );
+    set_backup_fresh(
+        1,
+        rounds,
+        phases,
+        sets,
+        best_vote_rounds,
+        best_values,
+        own_values,
+    );
+    set_backup_fresh(
+        2,
+        rounds,
+        phases,
+        sets,
+        best_vote_rounds,
+        best_values,
+        own_values,
+    );
+}
+
+fn set_learner_fresh(rounds: &mut [u32; 1024], voters: &mut [u8; 1024], values: &mut [u64; 2048]) {
+    learner_tables::myrthakel_learner_fresh(ACCEPTORS, INSTANCES, rounds, voters, values);
 }
 
 fn give_to_primary(packet: &mut [u8; 36], next: &mut [u32; 1]) -> u32 {
@@ -321,17 +409,28 @@ fn main() {
     let mut line = [0u8; 128];
     let mut next = [0u32; 1];
     let mut rounds = [[0u32; 1024]; 3];
-    let mut vote_rounds = [fresh_vote_rounds(); 3];
+    let mut vote_rounds = [[basics::NONE; 1024]; 3];
     let mut values = [[0u64; 2048]; 3];
     let mut backup_rounds = [[0u32; 1024]; 3];
     let mut phases = [[0u8; 1024]; 3];
     let mut promisers = [[0u8; 1024]; 3];
-    let mut best_vote_rounds = [[basics::NONE; 1024]; 3];
+    let mut best_vote_rounds = [[0u32; 1024]; 3];
     let mut best_values = [[0u64; 2048]; 3];
     let mut own_values = [[0u64; 2048]; 3];
-    let mut learner_rounds = [basics::NONE; 1024];
+    let mut learner_rounds = [0u32; 1024];
     let mut voters = [0u8; 1024];
     let mut learner_values = [0u64; 2048];
+    set_primary_fresh(&mut next);
+    set_acceptors_fresh(&mut rounds, &mut vote_rounds, &mut values);
+    set_backups_fresh(
+        &mut backup_rounds,
+        &mut phases,
+        &mut promisers,
+        &mut best_vote_rounds,
+        &mut best_values,
+        &mut own_values,
+    );
+    set_learner_fresh(&mut learner_rounds, &mut voters, &mut learner_values);
     io::write_all(STDOUT_FILENO, b"player verdict packet\n");
     let mut input = Input { from: 0, until: 0 };
     let mut turns = u64::MAX;

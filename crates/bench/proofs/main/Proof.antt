@@ -10,8 +10,17 @@ Inv-loop _ _ _ _ _ _ _ _ _ _ _ _ _ _ _ _ _ _ _ _ _ _ _ _ _ _ _ _ _ _ _ _ _ _ = U
 abbrev μ-loop : tie.MeasureT-loop
 μ-loop _ _ _ _ _ _ _ _ _ _ _ _ _ _ _ _ _ _ _ _ _ _ _ _ _ _ _ _ _ _ _ _ _ turns = turns
 
-fresh-vote-rounds-requires : tie.Need-fresh-vote-rounds-requires Inv-loop μ-loop
-fresh-vote-rounds-requires c κs = search needs
+set-primary-fresh-requires : tie.Need-set-primary-fresh-requires Inv-loop μ-loop
+set-primary-fresh-requires c κs = search needs
+
+set-acceptors-fresh-requires : tie.Need-set-acceptors-fresh-requires Inv-loop μ-loop
+set-acceptors-fresh-requires c κs = search needs
+
+set-backups-fresh-requires : tie.Need-set-backups-fresh-requires Inv-loop μ-loop
+set-backups-fresh-requires c κs = search needs
+
+set-learner-fresh-requires : tie.Need-set-learner-fresh-requires Inv-loop μ-loop
+set-learner-fresh-requires c κs = search needs
 
 slice-aggregate-write-all : tie.Need-slice-aggregate-write-all Inv-loop μ-loop
 slice-aggregate-write-all c = search needs
@@ -88,7 +97,10 @@ main-spec =
     (tie.spec
     Inv-loop
     μ-loop
-    fresh-vote-rounds-requires
+    set-primary-fresh-requires
+    set-acceptors-fresh-requires
+    set-backups-fresh-requires
+    set-learner-fresh-requires
     slice-aggregate-write-all
     write-all-requires
     loop-holds

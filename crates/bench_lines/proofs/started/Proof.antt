@@ -14,16 +14,24 @@ put-bytes-requires : tie.Need-put-bytes-requires
 put-bytes-requires c κs = let a = c .before .before .before .before in let hex = hex-brings 32 (now (a .args .value)) (a .pre .1 .1) in (hex .0, hex .1)
 
 number-of-requires : tie.Need-number-of-requires
-number-of-requires c κs = let a = c .before .before .before .before .before .before in decimal-brings (now (a .args .instance)) (a .pre .0) .0
+number-of-requires c κs =
+    let a = c .before .before .before .before .before .before in
+    omega (arith, decimal-brings (now (a .args .instance)) (a .pre .0) .0, decimal-brings (now (a .args .floor)) (a .pre .1 .0) .0)
 
 cast-t10 : tie.Need-cast-t10
-cast-t10 c = let a = c .before .before .before .before .before .before .before in omega (arith, decimal-brings (now (a .args .instance)) (a .pre .0) .1, c .number-of .ensures)
+cast-t10 c =
+    let a = c .before .before .before .before .before .before .before in
+    omega (arith, decimal-brings (now (a .args .instance)) (a .pre .0) .1, decimal-brings (now (a .args .floor)) (a .pre .1 .0) .1, c .number-of .ensures)
 
 number-of-requires-2 : tie.Need-number-of-requires-2
-number-of-requires-2 c κs = let a = c .before .before .before .before .before .before .before in decimal-brings (now (a .args .floor)) (a .pre .1 .0) .0
+number-of-requires-2 c κs =
+    let a = c .before .before .before .before .before .before .before in
+    omega (arith, decimal-brings (now (a .args .instance)) (a .pre .0) .0, decimal-brings (now (a .args .floor)) (a .pre .1 .0) .0)
 
 cast-t12 : tie.Need-cast-t12
-cast-t12 c = let a = c .before .before .before .before .before .before .before .before in omega (arith, decimal-brings (now (a .args .floor)) (a .pre .1 .0) .1, c .number-of2 .ensures)
+cast-t12 c =
+    let a = c .before .before .before .before .before .before .before .before in
+    omega (arith, decimal-brings (now (a .args .instance)) (a .pre .0) .1, decimal-brings (now (a .args .floor)) (a .pre .1 .0) .1, c .number-of2 .ensures)
 
 slice-aggregate-read-u64 : tie.Need-slice-aggregate-read-u64
 slice-aggregate-read-u64 c = search needs
