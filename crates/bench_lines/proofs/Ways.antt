@@ -109,8 +109,8 @@ module _ (name instance floor value : List ℕ) (test : Bool) (tested : test ≡
             → command ≡ Start own (numberOf instance) (numberOf floor) (valueOf value) → command ≡ startWith name instance floor value
         unfolding startWith need_or_then_
         starts a-value own own-so command command-so =
-            rw (← tested, not-false test starter, ← tested₂, not-false test₂ an-instance, ← tested₃, not-false test₃ a-floor, ← tested₄, not-false test₄ a-value, ← own-so)
-            command-so
+            command-so ∙ ap (λ k. Start k (numberOf instance) (numberOf floor) (valueOf value)) own-so
+            ∙ rw (← tested, not-false test starter, ← tested₂, not-false test₂ an-instance, ← tested₃, not-false test₃ a-floor, ← tested₄, not-false test₄ a-value)
 
 -- ---- a line
 
