@@ -12,14 +12,14 @@ use Rattle.bench_lines.proofs.digit.Statement.{statement}
 use Rattle.bench_lines.proofs.digit.Tie as tie
 
 sub-result : tie.Need-sub-result
-sub-result c = let b = c .before .args .byte in omega (arith, leb-true 48 b (both-true (leb 48 b) (leb b 57) (c .if1 .taken) .0))
+sub-result c = let b = c .before .args .byte in omega (arith, leb-true 48 b (both-true _ _ (c .if1 .taken) .0))
 
 returns : tie.Need-returns
 unfolding digitOf
 returns c = sym (if-true _ _ (c .if1 .taken))
 
 sub-result-2 : tie.Need-sub-result-2
-sub-result-2 c = let b = c .before .before .args .byte in omega (arith, leb-true 65 b (both-true (leb 65 b) (leb b 70) (c .if2 .taken) .0))
+sub-result-2 c = let b = c .before .before .args .byte in omega (arith, leb-true 65 b (both-true _ _ (c .if2 .taken) .0))
 
 add-result : tie.Need-add-result
 add-result c = search needs
@@ -29,7 +29,7 @@ unfolding digitOf
 returns-2 c = sym (if-false _ _ (c .before .if1 .left) ∙ if-true _ _ (c .if2 .taken))
 
 sub-result-3 : tie.Need-sub-result-3
-sub-result-3 c = let b = c .before .before .before .args .byte in omega (arith, leb-true 97 b (both-true (leb 97 b) (leb b 102) (c .if3 .taken) .0))
+sub-result-3 c = let b = c .before .before .before .args .byte in omega (arith, leb-true 97 b (both-true _ _ (c .if3 .taken) .0))
 
 add-result-2 : tie.Need-add-result-2
 add-result-2 c = search needs
