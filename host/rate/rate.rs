@@ -1,0 +1,299 @@
+//! Times each proved player against a plain one on the same packets, and holds every answer, packet and table of the one to the other's.
+//! With the words `PLAYER proved|plain COUNT` it only makes so many packets and takes those steps, for a counter of instructions, and with a word more,
+//! `without`, it leaves out the steps.
+mod plain;
+
+#[allow(dead_code)]
+#[path = "../compare/calls.rs"]
+mod calls;
+#[allow(dead_code)]
+#[path = "../compare/random.rs"]
+mod random;
+#[allow(dead_code)]
+#[path = "../compare/tables.rs"]
+mod tables;
+
+use random::Random;
+use std::collections::BTreeMap;
+use std::time::{Duration, Instant};
+use tables::*;
+
+const SETTINGS: Settings = Settings { acceptors: 3, instances: 1024 };
+const ACCEPTORS: u32 = SETTINGS.acceptors;
+const INSTANCES: u32 = SETTINGS.instances;
+const CELLS: usize = INSTANCES as usize;
+const ACCEPTOR: u32 = 2;
+const BACKUP: u32 = 1;
+const STEPS: usize = 1_000_000;
+const TURNS: usize = 15;
+const PACKET: usize = 36;
+
+/// One of the two that are timed: what its tables are at the start of a batch, and its step.
+struct Side<T> {
+    ready: fn() -> T,
+    step: fn(&mut [u8], &mut T) -> u32,
+}
+
+/// A player, proved and plain. Packets come in batches, each to tables of its own, since tables fill up.
+struct Player<T> {
+    name: &'static str,
+    batch: usize,
+    packets: fn(usize, &mut Random) -> [u8; PACKET],
+    proved: Side<T>,
+    plain: Side<T>,
+}
+
+// ---- packets. What is drawn follows from a fixed seed
+
+fn packet(kind: u8, switch: u16, instance: u32, round: u32, vote_round: u32, high: u64, low: u64) -> [u8; PACKET] {
+    let mut p = [0; PACKET];
+    p[..6].copy_from_slice(&[b'R', b'D', b'E', kind, 0, 1]);
+    p[6..8].copy_from_slice(&switch.to_be_bytes());
+    p[8..12].copy_from_slice(&instance.to_be_bytes());
+    p[12..16].copy_from_slice(&round.to_be_bytes());
+    p[16..20].copy_from_slice(&vote_round.to_be_bytes());
+    p[20..28].copy_from_slice(&high.to_be_bytes());
+    p[28..].copy_from_slice(&low.to_be_bytes());
+    p
+}
+
+/// A request of any switch.
+fn request(_: usize, random: &mut Random) -> [u8; PACKET] {
+    packet(0, random.number() as u16, 0, 0, NONE, random.number() | 1, random.number())
+}
+
+/// A prepare or a propose. Rounds rise by 4 for each packet that a cell gets and jump about by 8, so that some packets of each kind are too old.
+fn order(index: usize, random: &mut Random) -> [u8; PACKET] {
+    let propose = random.chance(50);
+    let instance = random.below(CELLS) as u32;
+    let mut round = index as u32 / INSTANCES * 4 + random.below(8) as u32;
+    if round % 4 == 0 && (round != 0 || !propose) {
+        round += 1;
+    }
+    let owner = (round % 4) as u16;
+    if propose {
+        packet(3, owner, instance, round, NONE, random.number(), random.number())
+    } else {
+        packet(1, owner, instance, round, NONE, 0, 0)
+    }
+}
+
+/// A promise in the round of the start or, seldom, in the one before, with a vote or without.
+fn promise(_: usize, random: &mut Random) -> [u8; PACKET] {
+    let sender = random.below(ACCEPTORS as usize) as u16;
+    let instance = random.below(CELLS) as u32;
+    let round = if random.chance(90) { STARTED } else { STARTED - 4 };
+    if random.chance(50) {
+        packet(2, sender, instance, round, NONE, 0, 0)
+    } else {
+        packet(2, sender, instance, round, random.pick(&[0, 1]), random.number(), random.number())
+    }
+}
+
+/// A vote, most in round 1. Votes of a round for an instance are for one value but for a few.
+fn vote(_: usize, random: &mut Random) -> [u8; PACKET] {
+    let sender = random.below(ACCEPTORS as usize) as u16;
+    let instance = random.below(CELLS) as u32;
+    let round = random.pick(&[0, 1, 1, 1, 1, 1, 1, 2]);
+    let other = random.chance(3) as u64;
+    packet(4, sender, instance, round, round, instance as u64 + other, round as u64)
+}
+
+// ---- players
+
+fn primary() -> Player<Vec<u32>> {
+    Player {
+        name: "primary",
+        batch: 1100,
+        packets: request,
+        proved: Side { ready: || vec![0], step: |packet, next| calls::primary_step(SETTINGS, packet, next) },
+        plain: Side { ready: || vec![0], step: |packet, next| plain::primary::step(ACCEPTORS, INSTANCES, packet, next) },
+    }
+}
+
+fn acceptor() -> Player<AcceptorTables> {
+    let ready = || AcceptorTables { rounds: vec![0; CELLS], vote_rounds: vec![NONE; CELLS], values: vec![0; 2 * CELLS] };
+    Player {
+        name: "acceptor",
+        batch: 8192,
+        packets: order,
+        proved: Side { ready, step: |packet, t| calls::acceptor_step(SETTINGS, ACCEPTOR, packet, t) },
+        plain: Side {
+            ready,
+            step: |packet, t| {
+                plain::acceptor::step(ACCEPTORS, INSTANCES, ACCEPTOR, packet, &mut t.rounds, &mut t.vote_rounds, &mut t.values)
+            },
+        },
+    }
+}
+
+/// A backup is started on each instance before its promises come, and what it wrote is kept beside its tables, to be compared as well.
+#[derive(PartialEq)]
+struct Started {
+    tables: BackupTables,
+    prepares: Vec<u8>,
+}
+
+const STARTED: u32 = 5;
+
+fn started(start: fn(Start, &mut [u8], &mut BackupTables) -> u32) -> Started {
+    let mut tables = BackupTables {
+        rounds: vec![0; CELLS],
+        phases: vec![0; CELLS],
+        sets: vec![0; CELLS],
+        best_vote_rounds: vec![NONE; CELLS],
+        best_values: vec![0; 2 * CELLS],
+        own_values: vec![0; 2 * CELLS],
+    };
+    let mut prepares = vec![0; PACKET * CELLS];
+    for (instance, buffer) in prepares.chunks_exact_mut(PACKET).enumerate() {
+        let named = Start { instance: instance as u32, floor: STARTED - 1, value: instance as u128 };
+        assert_eq!(start(named, buffer, &mut tables), TO_ACCEPTORS);
+    }
+    Started { tables, prepares }
+}
+
+fn columns(t: &mut BackupTables) -> plain::backup::Columns<'_> {
+    plain::backup::Columns {
+        rounds: &mut t.rounds,
+        phases: &mut t.phases,
+        sets: &mut t.sets,
+        best_vote_rounds: &mut t.best_vote_rounds,
+        best_values: &mut t.best_values,
+        own_values: &mut t.own_values,
+    }
+}
+
+fn plain_start(named: Start, buffer: &mut [u8], t: &mut BackupTables) -> u32 {
+    let (high, low) = ((named.value >> 64) as u64, named.value as u64);
+    plain::backup::start(ACCEPTORS, INSTANCES, BACKUP, named.instance, named.floor, high, low, buffer, columns(t))
+}
+
+fn backup() -> Player<Started> {
+    Player {
+        name: "backup",
+        batch: 2048,
+        packets: promise,
+        proved: Side {
+            ready: || started(|named, buffer, t| calls::backup_start(SETTINGS, BACKUP, named, buffer, t)),
+            step: |packet, s| calls::backup_step(SETTINGS, BACKUP, packet, &mut s.tables),
+        },
+        plain: Side {
+            ready: || started(plain_start),
+            step: |packet, s| plain::backup::step(ACCEPTORS, INSTANCES, BACKUP, packet, columns(&mut s.tables)),
+        },
+    }
+}
+
+fn learner() -> Player<LearnerTables> {
+    let ready = || LearnerTables { rounds: vec![NONE; CELLS], sets: vec![0; CELLS], values: vec![0; 2 * CELLS] };
+    Player {
+        name: "learner",
+        batch: 2048,
+        packets: vote,
+        proved: Side { ready, step: |packet, t| calls::learner_step(SETTINGS, packet, t) },
+        plain: Side {
+            ready,
+            step: |packet, t| plain::learner::step(ACCEPTORS, INSTANCES, packet, &mut t.rounds, &mut t.sets, &mut t.values),
+        },
+    }
+}
+
+// ---- turns
+
+/// What a side left of a batch.
+#[derive(PartialEq)]
+struct Left<T> {
+    packets: Vec<u8>,
+    tables: T,
+    answers: Vec<u32>,
+}
+
+/// One batch on tables made ready. Only the steps are timed.
+fn run<T>(side: &Side<T>, batch: &[u8]) -> (Duration, Left<T>) {
+    let mut left = Left { packets: batch.to_vec(), tables: (side.ready)(), answers: vec![0; batch.len() / PACKET] };
+    let began = Instant::now();
+    for (packet, answer) in left.packets.chunks_exact_mut(PACKET).zip(&mut left.answers) {
+        *answer = (side.step)(packet, &mut left.tables);
+    }
+    (began.elapsed(), left)
+}
+
+/// Steps a second in millions, where each batch takes the median of its times: what else the machine did meanwhile is left out.
+fn rate(times: Vec<Vec<Duration>>) -> f64 {
+    let median = |mut times: Vec<Duration>| {
+        times.sort();
+        times[times.len() / 2]
+    };
+    let whole: Duration = times.into_iter().map(median).sum();
+    STEPS as f64 / whole.as_secs_f64() / 1e6
+}
+
+impl<T: PartialEq> Player<T> {
+    fn make(&self, count: usize) -> Vec<u8> {
+        let mut random = Random::new(1);
+        (0..count).flat_map(|index| (self.packets)(index % self.batch, &mut random)).collect()
+    }
+
+    /// In each turn the two take every batch one after the other, and take turns at being the first.
+    fn time(&self) {
+        let all = self.make(STEPS);
+        let batches: Vec<&[u8]> = all.chunks(PACKET * self.batch).collect();
+        let mut proved_times = vec![vec![]; batches.len()];
+        let mut plain_times = proved_times.clone();
+        let mut counts = BTreeMap::new();
+        for turn in 0..TURNS {
+            for (index, batch) in batches.iter().enumerate() {
+                let sides = if turn % 2 == 0 { [&self.proved, &self.plain] } else { [&self.plain, &self.proved] };
+                let [first, second] = sides.map(|side| run(side, batch));
+                assert!(first.1 == second.1, "the proved {} and the plain one differ in batch {index}", self.name);
+                let (proved, plain) = if turn % 2 == 0 { (first.0, second.0) } else { (second.0, first.0) };
+                proved_times[index].push(proved);
+                plain_times[index].push(plain);
+                if turn == 0 {
+                    first.1.answers.iter().for_each(|answer| *counts.entry(*answer).or_insert(0) += 1);
+                }
+            }
+        }
+        let (proved, plain) = (rate(proved_times), rate(plain_times));
+        let shares: Vec<String> = counts.iter().map(|(answer, count)| format!("{answer}: {} %", (100 * count + STEPS / 2) / STEPS)).collect();
+        println!("{:<9} {proved:>7.1} {plain:>7.1} {:>7.2}    {}", self.name, proved / plain, shares.join(", "));
+    }
+
+    fn count(&self, side: &Side<T>, count: usize, without: bool) {
+        let step = if without { |_: &mut [u8], _: &mut T| 0 } else { side.step };
+        let counted = Side { ready: side.ready, step };
+        self.make(count).chunks(PACKET * self.batch).for_each(|batch| drop(run(&counted, batch)));
+    }
+
+    fn obey(&self, words: &[String]) {
+        match words {
+            [] => self.time(),
+            [side, count, rest @ ..] => {
+                let side = if side == "plain" { &self.plain } else { &self.proved };
+                self.count(side, count.parse().expect("a number of packets"), !rest.is_empty())
+            }
+            _ => eprintln!("wanted: [PLAYER [proved|plain COUNT [without]]]"),
+        }
+    }
+}
+
+fn main() {
+    let words: Vec<String> = std::env::args().skip(1).collect();
+    let (player, rest) = words.split_first().map_or(("all", &words[..]), |(player, rest)| (player, rest));
+    if rest.is_empty() {
+        println!("Million steps a second, by the medians of {TURNS} turns of {STEPS} packets. Answers, packets and tables were the same in each.");
+        println!("player     proved   plain   ratio    answers");
+    }
+    let players: [(&str, fn(&[String])); 4] = [
+        ("primary", |rest| primary().obey(rest)),
+        ("acceptor", |rest| acceptor().obey(rest)),
+        ("backup", |rest| backup().obey(rest)),
+        ("learner", |rest| learner().obey(rest)),
+    ];
+    for (name, obey) in players {
+        if player == "all" || player == name {
+            obey(rest);
+        }
+    }
+}
