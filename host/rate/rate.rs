@@ -1,6 +1,6 @@
 //! Times each proved player against a plain one on the same packets, and holds every answer, packet and table of the one to the other's.
-//! With the words `PLAYER proved|plain COUNT` it only makes so many packets and takes those steps, for a counter of instructions, and with a word more,
-//! `without`, it leaves out the steps.
+//! With the words `PLAYER proved|plain COUNT` it only makes so many packets and takes those steps, for a counter of instructions, and with the word `without`
+//! behind them it leaves out the steps.
 mod plain;
 
 #[allow(dead_code)]
@@ -45,21 +45,20 @@ struct Player<T> {
 
 // ---- packets. What is drawn follows from a fixed seed
 
-fn packet(kind: u8, switch: u16, instance: u32, round: u32, vote_round: u32, high: u64, low: u64) -> [u8; PACKET] {
-    let mut p = [0; PACKET];
-    p[..6].copy_from_slice(&[b'R', b'D', b'E', kind, 0, 1]);
-    p[6..8].copy_from_slice(&switch.to_be_bytes());
-    p[8..12].copy_from_slice(&instance.to_be_bytes());
-    p[12..16].copy_from_slice(&round.to_be_bytes());
-    p[16..20].copy_from_slice(&vote_round.to_be_bytes());
-    p[20..28].copy_from_slice(&high.to_be_bytes());
-    p[28..].copy_from_slice(&low.to_be_bytes());
-    p
+fn packet(kind: u32, switch: u32, instance: u32, round: u32, vote_round: u32, value: u128) -> [u8; PACKET] {
+    let mut packet = [0; PACKET];
+    let written = calls::packet_write(Fields { kind, switch, instance, round, vote_round, value }, &mut packet);
+    assert_eq!(written, DONE);
+    packet
+}
+
+fn any_value(random: &mut Random) -> u128 {
+    (random.number() as u128) << 64 | random.number() as u128
 }
 
 /// A request of any switch.
 fn request(_: usize, random: &mut Random) -> [u8; PACKET] {
-    packet(0, random.number() as u16, 0, 0, NONE, random.number() | 1, random.number())
+    packet(0, random.below(65536) as u32, 0, 0, NONE, any_value(random) | 1)
 }
 
 /// A prepare or a propose. Rounds rise by 4 for each packet that a cell gets and jump about by 8, so that some packets of each kind are too old.
@@ -70,49 +69,54 @@ fn order(index: usize, random: &mut Random) -> [u8; PACKET] {
     if round % 4 == 0 && (round != 0 || !propose) {
         round += 1;
     }
-    let owner = (round % 4) as u16;
     if propose {
-        packet(3, owner, instance, round, NONE, random.number(), random.number())
+        packet(3, round % 4, instance, round, NONE, any_value(random))
     } else {
-        packet(1, owner, instance, round, NONE, 0, 0)
+        packet(1, round % 4, instance, round, NONE, 0)
     }
 }
 
 /// A promise in the round of the start or, seldom, in the one before, with a vote or without.
 fn promise(_: usize, random: &mut Random) -> [u8; PACKET] {
-    let sender = random.below(ACCEPTORS as usize) as u16;
+    let sender = random.below(ACCEPTORS as usize) as u32;
     let instance = random.below(CELLS) as u32;
     let round = if random.chance(90) { STARTED } else { STARTED - 4 };
     if random.chance(50) {
-        packet(2, sender, instance, round, NONE, 0, 0)
+        packet(2, sender, instance, round, NONE, 0)
     } else {
-        packet(2, sender, instance, round, random.pick(&[0, 1]), random.number(), random.number())
+        packet(2, sender, instance, round, random.pick(&[0, 1]), any_value(random))
     }
 }
 
 /// A vote, most in round 1. Votes of a round for an instance are for one value but for a few.
 fn vote(_: usize, random: &mut Random) -> [u8; PACKET] {
-    let sender = random.below(ACCEPTORS as usize) as u16;
+    let sender = random.below(ACCEPTORS as usize) as u32;
     let instance = random.below(CELLS) as u32;
     let round = random.pick(&[0, 1, 1, 1, 1, 1, 1, 2]);
-    let other = random.chance(3) as u64;
-    packet(4, sender, instance, round, round, instance as u64 + other, round as u64)
+    let other = random.chance(3) as u128;
+    packet(4, sender, instance, round, round, (instance as u128) << 64 | other)
 }
 
 // ---- players
 
+fn fresh<T>(mut tables: T, fill: fn(Settings, &mut T) -> u32) -> T {
+    assert_eq!(fill(SETTINGS, &mut tables), DONE);
+    tables
+}
+
 fn primary() -> Player<Vec<u32>> {
+    let ready = || fresh(vec![1], calls::primary_fresh);
     Player {
         name: "primary",
         batch: 1100,
         packets: request,
-        proved: Side { ready: || vec![0], step: |packet, next| calls::primary_step(SETTINGS, packet, next) },
-        plain: Side { ready: || vec![0], step: |packet, next| plain::primary::step(ACCEPTORS, INSTANCES, packet, next) },
+        proved: Side { ready, step: |packet, next| calls::primary_step(SETTINGS, packet, next) },
+        plain: Side { ready, step: |packet, next| plain::primary::step(ACCEPTORS, INSTANCES, packet, next) },
     }
 }
 
 fn acceptor() -> Player<AcceptorTables> {
-    let ready = || AcceptorTables { rounds: vec![0; CELLS], vote_rounds: vec![NONE; CELLS], values: vec![0; 2 * CELLS] };
+    let ready = || fresh(AcceptorTables::used(CELLS), calls::acceptor_fresh);
     Player {
         name: "acceptor",
         batch: 8192,
@@ -137,14 +141,7 @@ struct Started {
 const STARTED: u32 = 5;
 
 fn started(start: fn(Start, &mut [u8], &mut BackupTables) -> u32) -> Started {
-    let mut tables = BackupTables {
-        rounds: vec![0; CELLS],
-        phases: vec![0; CELLS],
-        sets: vec![0; CELLS],
-        best_vote_rounds: vec![NONE; CELLS],
-        best_values: vec![0; 2 * CELLS],
-        own_values: vec![0; 2 * CELLS],
-    };
+    let mut tables = fresh(BackupTables::used(CELLS), calls::backup_fresh);
     let mut prepares = vec![0; PACKET * CELLS];
     for (instance, buffer) in prepares.chunks_exact_mut(PACKET).enumerate() {
         let named = Start { instance: instance as u32, floor: STARTED - 1, value: instance as u128 };
@@ -186,7 +183,7 @@ fn backup() -> Player<Started> {
 }
 
 fn learner() -> Player<LearnerTables> {
-    let ready = || LearnerTables { rounds: vec![NONE; CELLS], sets: vec![0; CELLS], values: vec![0; 2 * CELLS] };
+    let ready = || fresh(LearnerTables::used(CELLS), calls::learner_fresh);
     Player {
         name: "learner",
         batch: 2048,
@@ -260,40 +257,53 @@ impl<T: PartialEq> Player<T> {
         println!("{:<9} {proved:>7.1} {plain:>7.1} {:>7.2}    {}", self.name, proved / plain, shares.join(", "));
     }
 
-    fn count(&self, side: &Side<T>, count: usize, without: bool) {
-        let step = if without { |_: &mut [u8], _: &mut T| 0 } else { side.step };
+    fn count(&self, side: &Side<T>, count: &str, rest: &[&str]) {
+        let step = match rest {
+            [] => side.step,
+            ["without"] => |_: &mut [u8], _: &mut T| 0,
+            _ => usage(),
+        };
         let counted = Side { ready: side.ready, step };
-        self.make(count).chunks(PACKET * self.batch).for_each(|batch| drop(run(&counted, batch)));
+        let packets = self.make(count.parse().unwrap_or_else(|_| usage()));
+        packets.chunks(PACKET * self.batch).for_each(|batch| drop(run(&counted, batch)));
     }
 
-    fn obey(&self, words: &[String]) {
+    fn obey(&self, words: &[&str]) {
         match words {
             [] => self.time(),
-            [side, count, rest @ ..] => {
-                let side = if side == "plain" { &self.plain } else { &self.proved };
-                self.count(side, count.parse().expect("a number of packets"), !rest.is_empty())
-            }
-            _ => eprintln!("wanted: [PLAYER [proved|plain COUNT [without]]]"),
+            ["proved", count, rest @ ..] => self.count(&self.proved, count, rest),
+            ["plain", count, rest @ ..] => self.count(&self.plain, count, rest),
+            _ => usage(),
         }
     }
 }
 
+fn usage() -> ! {
+    eprintln!("wanted: [primary|acceptor|backup|learner [proved|plain COUNT [without]]]");
+    std::process::exit(2)
+}
+
 fn main() {
     let words: Vec<String> = std::env::args().skip(1).collect();
-    let (player, rest) = words.split_first().map_or(("all", &words[..]), |(player, rest)| (player, rest));
-    if rest.is_empty() {
-        println!("Million steps a second, by the medians of {TURNS} turns of {STEPS} packets. Answers, packets and tables were the same in each.");
+    let words: Vec<&str> = words.iter().map(String::as_str).collect();
+    if words.len() < 2 {
+        println!("million steps a second, by the medians of {TURNS} turns of {STEPS} packets");
         println!("player     proved   plain   ratio    answers");
     }
-    let players: [(&str, fn(&[String])); 4] = [
-        ("primary", |rest| primary().obey(rest)),
-        ("acceptor", |rest| acceptor().obey(rest)),
-        ("backup", |rest| backup().obey(rest)),
-        ("learner", |rest| learner().obey(rest)),
-    ];
-    for (name, obey) in players {
-        if player == "all" || player == name {
-            obey(rest);
+    match &words[..] {
+        [] => {
+            primary().time();
+            acceptor().time();
+            backup().time();
+            learner().time();
         }
+        ["primary", rest @ ..] => primary().obey(rest),
+        ["acceptor", rest @ ..] => acceptor().obey(rest),
+        ["backup", rest @ ..] => backup().obey(rest),
+        ["learner", rest @ ..] => learner().obey(rest),
+        _ => usage(),
+    }
+    if words.len() < 2 {
+        println!("Every answer, packet and table of the proved players was the plain ones'.");
     }
 }

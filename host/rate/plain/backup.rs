@@ -38,10 +38,7 @@ impl Columns<'_> {
             PROPOSED => members == majority,
             _ => return false,
         };
-        fits && owner(round) as u32 == own
-            && set >> acceptors == 0
-            && vote_up_to(round, best, high, low)
-            && (set != 0 || best == NONE)
+        fits && owner(round) as u32 == own && set >> acceptors == 0 && vote_up_to(round, best, high, low) && (set != 0 || best == NONE)
     }
 }
 
