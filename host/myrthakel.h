@@ -9,9 +9,9 @@
  *
  * For agreement it owes more, and no call can check that either:
  * - all calls have the same settings; each acceptor's number, 0 to M - 1, and each backup's, 1 to 3, is given to one box, and there is one primary;
- * - all tables begin fresh (the calls that set them so are the first below), and from then on nothing but their own player's steps and starts writes them. None
- *   is reset or restored, not after a restart either: an acceptor would forget its promises and votes, a primary would use instances again, a backup
- *   rounds, and a learner would take back what it said;
+ * - all tables begin fresh, as the calls below whose names end in fresh set them, and from then on nothing but their own player's steps and starts writes
+ *   them. None is reset or restored, not after a restart either: an acceptor would forget its promises and votes, a primary would use instances again, a
+ *   backup rounds, and a learner would take back what it said;
  * - what is handed over is a request, a malformed packet, or a copy of a packet that a call said to send: lost, doubled or late, but not changed.
  * Nothing is claimed of a run in which a saved table was read back.
  *

@@ -1,8 +1,8 @@
 -- The mark as one number: a packet is marked exactly if the number in its first four bytes, without the last of them, is that of "RDE"; and this number and a
 -- kind, stored there, are the mark and the kind. Bytes are digits, so a number is the one written out exactly if each byte is.
 -- Assumes nothing.
-use Prim.Native.Nat.{ℕ, _+_, _*_, _/_, _%_, _^_, _<_}
-use mathlib.Core.Path.{_≡_, refl, sym, _∙_}
+use Prim.Native.Nat.{ℕ, _+_, _*_, _/_, _%_, _<_}
+use mathlib.Core.Path.{_≡_, refl, _∙_}
 use mathlib.Core.Bool.{Bool, true, false, _&&_}
 use mathlib.Core.List.{List, [], _∷_}
 use native.Mathlib.Omega.{arith}
@@ -21,7 +21,7 @@ digits-equal a b c d small limit = by-first (eqb a c) refl
   where
     by-first : (t : Bool) → eqb a c ≡ t → eqb (a * 256 + b) (c * 256 + d) ≡ (t && eqb b d)
     by-first false h = ne-eqb (a * 256 + b) (c * 256 + d) (λ same. eqb-false a c h (omega arith))
-    by-first true h = let first = eqb-true a c h in by-last (eqb b d) refl
+    by-first true h = by-last (eqb b d) refl
       where
         by-last : (t : Bool) → eqb b d ≡ t → eqb (a * 256 + b) (c * 256 + d) ≡ t
         by-last true l = eq-eqb (a * 256 + b) (c * 256 + d) (omega (arith, eqb-true a c h, eqb-true b d l))
