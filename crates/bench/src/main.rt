@@ -1,6 +1,8 @@
 // The bench: one depot with M = 3 and N = 1,024, all players fresh, driven by lines of standard input. The tables are arrays of `main`, which lends a player
 // its own where a line is for it: each function that is handed many tables is dear to check.
 ghost use Prim.Native.Nat.{_<_};
+ghost use mathlib.Core.Path.{_≡_};
+ghost use Rattle.bench.specs.Bench.{freshVoteRounds};
 use basics::Value;
 use basics::Verdict;
 use bench_lines::Command;
@@ -200,6 +202,13 @@ fn print_line(command: Command, answer: u32, packet: &[u8; 36]) {
 }
 
 // ---- the players: like players' tables of one kind are an array, with a table for each
+
+// "each of 1,024 cells starts with the never-voted mark"
+fn fresh_vote_rounds() -> [u32; 1024]
+    ensures { λ r. ⌜ r ≡ freshVoteRounds ⌝ }
+{
+    [basics::NONE; 1024]
+}
 
 // M, N and the sizes are allowed, so each call that sets tables fresh answers "done".
 fn set_primary_fresh(next: &mut [u32; 1]) {
@@ -409,7 +418,7 @@ fn main() {
     let mut line = [0u8; 128];
     let mut next = [0u32; 1];
     let mut rounds = [[0u32; 1024]; 3];
-    let mut vote_rounds = [[basics::NONE; 1024]; 3];
+    let mut vote_rounds = [fresh_vote_rounds(); 3];
     let mut values = [[0u64; 2048]; 3];
     let mut backup_rounds = [[0u32; 1024]; 3];
     let mut phases = [[0u8; 1024]; 3];

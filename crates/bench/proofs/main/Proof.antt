@@ -10,6 +10,9 @@ Inv-loop _ _ _ _ _ _ _ _ _ _ _ _ _ _ _ _ _ _ _ _ _ _ _ _ _ _ _ _ _ _ _ _ _ _ = U
 abbrev μ-loop : tie.MeasureT-loop
 μ-loop _ _ _ _ _ _ _ _ _ _ _ _ _ _ _ _ _ _ _ _ _ _ _ _ _ _ _ _ _ _ _ _ _ turns = turns
 
+fresh-vote-rounds-requires : tie.Need-fresh-vote-rounds-requires Inv-loop μ-loop
+fresh-vote-rounds-requires c κs = search needs
+
 set-primary-fresh-requires : tie.Need-set-primary-fresh-requires Inv-loop μ-loop
 set-primary-fresh-requires c κs = search needs
 
@@ -97,6 +100,7 @@ main-spec =
     (tie.spec
     Inv-loop
     μ-loop
+    fresh-vote-rounds-requires
     set-primary-fresh-requires
     set-acceptors-fresh-requires
     set-backups-fresh-requires
