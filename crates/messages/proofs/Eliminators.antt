@@ -74,6 +74,16 @@ no-request here other (Promise s i r b v) tag = refl
 no-request here other (Propose i r v) tag = refl
 no-request here other (Vote s i r v) tag = refl
 
+-- and so of `let Message::Prepare { .. } = message`
+pub no-prepare : {A : Type 0} (here : Instance → Round → A) (other : A) (m : Message) → OneOf (0 ∷ 2 ∷ 3 ∷ 4 ∷ []) (tagOf the-type m) → other ≡ whenPrepare here other m
+unfolding whenPrepare
+no-prepare here other (Request s v) tag = refl
+no-prepare here other (Prepare i r) tag =
+    absurd (⊎-elim (eqb-false 1 0 refl) (⊎-elim (eqb-false 1 2 refl) (⊎-elim (eqb-false 1 3 refl) (eqb-false 1 4 refl))) tag)
+no-prepare here other (Promise s i r b v) tag = refl
+no-prepare here other (Propose i r v) tag = refl
+no-prepare here other (Vote s i r v) tag = refl
+
 -- and so of `let Message::Promise { .. } = message`
 pub no-promise : {A : Type 0} (here : ℕ → Instance → Round → Round → Value → A) (other : A) (m : Message) → OneOf (0 ∷ 1 ∷ 3 ∷ 4 ∷ []) (tagOf the-type m)
     → other ≡ whenPromise here other m

@@ -154,3 +154,8 @@ pub Bytes-toBytes : (w n : ℕ) → Bytes (toBytes w n)
 Bytes-toBytes zero n i = omega arith
 Bytes-toBytes (suc w) n zero = omega arith
 Bytes-toBytes (suc w) n (suc i) = Bytes-toBytes w n i
+
+pub Bytes-bytesAt : (p : List ℕ) → Bytes p → (at w : ℕ) → Bytes (bytesAt p at w)
+Bytes-bytesAt p h at zero i = omega arith
+Bytes-bytesAt p h at (suc w) zero = h at
+Bytes-bytesAt p h at (suc w) (suc i) = Bytes-bytesAt p h (at + 1) w i

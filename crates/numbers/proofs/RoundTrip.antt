@@ -15,7 +15,7 @@ use Rattle.numbers.specs.Promises.{WriteThenRead, ReadThenWrite}
 use Rattle.numbers.proofs.Bytes.{number-within, stored-within, length-toBytes, bytesAt-part, bigEndian-toBytes, toBytes-numberAt}
 
 -- bytes that were stored at a place stand there
-stored-stand : (p : List ℕ) (at : ℕ) (bytes : List ℕ) → at + length bytes ≤ length p → bytesAt (sets p at bytes) at (length bytes) ≡ bytes
+pub stored-stand : (p : List ℕ) (at : ℕ) (bytes : List ℕ) → at + length bytes ≤ length p → bytesAt (sets p at bytes) at (length bytes) ≡ bytes
 stored-stand p at bytes inside =
     let after = drop (at + length bytes) p in
     let long = length-sets p at bytes in
@@ -33,7 +33,7 @@ write-then-read p at w n inside fits =
     ∙ ap (λ k. bigEndian (bytesAt (sets p at bytes) at k)) (sym wide) ∙ ap bigEndian (stored-stand p at bytes (omega (arith, wide))) ∙ bigEndian-toBytes w n fits
 
 -- storing what stands at a place changes nothing
-stands-stored : (p : List ℕ) (at w : ℕ) → sets p at (bytesAt p at w) ≡ p
+pub stands-stored : (p : List ℕ) (at w : ℕ) → sets p at (bytesAt p at w) ≡ p
 stands-stored p at zero = refl
 stands-stored p at (suc w) =
     ap (λ q. sets q (suc at) (bytesAt p (at + 1) w)) (set-getD p at 0) ∙ ap (λ k. sets p (suc at) (bytesAt p k w)) (add-one at) ∙ stands-stored p (suc at) w
