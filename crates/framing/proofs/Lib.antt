@@ -1,0 +1,3 @@
+mod Stores
+mod Ways
+pub mod Promises
