@@ -1,0 +1,2 @@
+pub mod FrameRun
+pub mod FrameAgreement
