@@ -12,11 +12,16 @@
  * - all tables begin fresh, as the calls below whose names end in fresh set them, and from then on nothing but their own player's steps and starts writes
  *   them. None is reset or restored, not after a restart either: an acceptor would forget its promises and votes, a primary would use instances again, a
  *   backup rounds, and a learner would take back what it said;
- * - what is handed over is a request, a malformed packet, or a copy of a packet that a call said to send: lost, doubled or late, but not changed.
+ * - what is handed over is a request, a malformed packet, or a copy of a packet that a call said to send: lost, doubled or late, but not changed. In a frame
+ *   that is owed of the packet: a copy is one of the 36 bytes, in whatever frame, and a frame refused by 21 to 25 counts as malformed.
  * Nothing is claimed of a run in which a saved table was read back.
  *
  * Settings, the same in every call of a run: acceptors (M) is 3, 5 or 7; instances (N) is 1 to 1024. A packet is 36 bytes. A value in a table is two
  * numbers: the first eight of its sixteen bytes as one big-endian number, then the last eight.
+ *
+ * A frame is 78 bytes, as a switch port sees them: Ethernet II in 14 (destination, source, EtherType), IPv4 without options in 20, UDP in 8, and the packet in
+ * the 36 from byte 42 on. The UDP port that frames go to is a setting of the calls that take one. It is a uint16_t, unlike M and N: each such number is a
+ * port, so that refusal 7 has nothing to judge, and a compiler tells of a greater one.
  */
 #ifndef MYRTHAKEL_H
 #define MYRTHAKEL_H
@@ -32,6 +37,7 @@ extern "C" {
 #define MYRTHAKEL_NONE UINT32_C(4294967295)
 
 #define MYRTHAKEL_PACKET_LENGTH 36
+#define MYRTHAKEL_FRAME_LENGTH 78
 
 /* A delivered value, and a table saved for N instances, in bytes. */
 #define MYRTHAKEL_VALUE_LENGTH 16
@@ -49,7 +55,7 @@ enum {
     MYRTHAKEL_NO_HOLE = 108
 };
 
-/* Refusals, in the paper's numbers. */
+/* Refusals, in the paper's numbers. Those of frames are the last five: of the header, what tells that it is UDP over IPv4, in one piece and of our length. */
 enum {
     MYRTHAKEL_WRONG_LENGTH = 1,
     MYRTHAKEL_WRONG_MARK = 2,
@@ -67,7 +73,12 @@ enum {
     MYRTHAKEL_ALREADY_DECIDED = 14,
     MYRTHAKEL_ALREADY_COUNTED = 15,
     MYRTHAKEL_NO_ROUND_LEFT = 16,
-    MYRTHAKEL_IMPOSSIBLE_CELL = 17
+    MYRTHAKEL_IMPOSSIBLE_CELL = 17,
+    MYRTHAKEL_WRONG_FRAME_LENGTH = 21,
+    MYRTHAKEL_WRONG_FRAME_HEADER = 22,
+    MYRTHAKEL_WRONG_IPV4_CHECKSUM = 23,
+    MYRTHAKEL_WRONG_UDP_HEADER = 24,
+    MYRTHAKEL_WRONG_UDP_CHECKSUM = 25
 };
 
 /* Types of packets, in the paper's numbers. */
@@ -252,6 +263,65 @@ uint32_t myrthakel_learner_read_saved(uint32_t acceptors, uint32_t instances,
                                       uint32_t *rounds, size_t rounds_length,
                                       uint8_t *sets, size_t sets_length,
                                       uint64_t *values, size_t values_length);
+
+/*
+ * Frames, one call for each player: the player's step on the 36 bytes of the packet, and then both checksums set anew. All other header fields stay, so what is
+ * sent is to be addressed and sealed by the host. Tables and answers are the step's, but that 1 never occurs; a frame that is refused, held or decides
+ * stays byte for byte. Refusals: 7, then those of the frame, in their order, then the step's own from 2 on:
+ * 21 not 78 bytes;
+ * 22 EtherType not 0800 hex, first byte of IPv4 not 45 hex, total length not 64, a fragment (by its offset, or as more follow), or protocol not 17;
+ * 23 the IPv4 checksum is not the one computed, ffff hex where that is 0 included;
+ * 24 UDP length not 44, or another destination port;
+ * 25 the UDP checksum is not the one computed, which is ffff hex where the sum gives 0: a received 0 is refused.
+ * One bit flipped from byte 12 on is always refused so. The Ethernet addresses, bytes 0 to 11, are in neither checksum.
+ */
+uint32_t myrthakel_primary_frame(uint32_t acceptors, uint32_t instances, uint16_t port,
+                                 uint8_t *frame, size_t frame_length,
+                                 uint32_t *next, size_t next_length);
+
+uint32_t myrthakel_acceptor_frame(uint32_t acceptors, uint32_t instances, uint32_t own, uint16_t port,
+                                  uint8_t *frame, size_t frame_length,
+                                  uint32_t *rounds, size_t rounds_length,
+                                  uint32_t *vote_rounds, size_t vote_rounds_length,
+                                  uint64_t *values, size_t values_length);
+
+uint32_t myrthakel_backup_frame(uint32_t acceptors, uint32_t instances, uint32_t own, uint16_t port,
+                                uint8_t *frame, size_t frame_length,
+                                uint32_t *rounds, size_t rounds_length,
+                                uint8_t *phases, size_t phases_length,
+                                uint8_t *sets, size_t sets_length,
+                                uint32_t *best_vote_rounds, size_t best_vote_rounds_length,
+                                uint64_t *best_values, size_t best_values_length,
+                                uint64_t *own_values, size_t own_values_length);
+
+/*
+ * The learner's never writes its frame.
+ */
+uint32_t myrthakel_learner_frame(uint32_t acceptors, uint32_t instances, uint16_t port,
+                                 const uint8_t *frame, size_t frame_length,
+                                 uint32_t *rounds, size_t rounds_length,
+                                 uint8_t *sets, size_t sets_length,
+                                 uint64_t *values, size_t values_length);
+
+/*
+ * Frames a prepare that a start wrote: every byte of the buffer of 78 is written, done. An Ethernet address is lent as its 6 bytes; an IPv4 address is
+ * the big-endian number of its 4. Time to live is 64; type of service, identification, flags and fragment offset are 0. Refusals: 1 to 5 of the packet, 6
+ * unless it is a prepare, 21 of the buffer.
+ */
+uint32_t myrthakel_frame_prepare(const uint8_t *packet, size_t packet_length,
+                                 const uint8_t ethernet_to[6], const uint8_t ethernet_from[6],
+                                 uint32_t ip_from, uint32_t ip_to, uint16_t port_from, uint16_t port_to,
+                                 uint8_t *frame, size_t frame_length);
+
+/*
+ * Whether a player's call would take the frame, for a host that sorts frames before it hands them on: done. Refusals: 21 to 25.
+ */
+uint32_t myrthakel_frame_check(uint16_t port, const uint8_t *frame, size_t frame_length);
+
+/*
+ * Sets both checksums anew, for a host that has addressed a frame that it forwards, or has written one: done. Refusals: 21, 22, 24 (of the length alone).
+ */
+uint32_t myrthakel_frame_seal(uint8_t *frame, size_t frame_length);
 
 #ifdef __cplusplus
 }

@@ -13,6 +13,7 @@ static void numbers(void)
 {
     NUMBER(MYRTHAKEL_NONE, 4294967295);
     NUMBER(MYRTHAKEL_PACKET_LENGTH, 36);
+    NUMBER(MYRTHAKEL_FRAME_LENGTH, 78);
     NUMBER(MYRTHAKEL_VALUE_LENGTH, 16);
     NUMBER(MYRTHAKEL_SAVED_LENGTH(1), 29);
     NUMBER(MYRTHAKEL_SAVED_LENGTH(1024), 21512);
@@ -46,6 +47,11 @@ static void numbers(void)
     NUMBER(MYRTHAKEL_ALREADY_COUNTED, 15);
     NUMBER(MYRTHAKEL_NO_ROUND_LEFT, 16);
     NUMBER(MYRTHAKEL_IMPOSSIBLE_CELL, 17);
+    NUMBER(MYRTHAKEL_WRONG_FRAME_LENGTH, 21);
+    NUMBER(MYRTHAKEL_WRONG_FRAME_HEADER, 22);
+    NUMBER(MYRTHAKEL_WRONG_IPV4_CHECKSUM, 23);
+    NUMBER(MYRTHAKEL_WRONG_UDP_HEADER, 24);
+    NUMBER(MYRTHAKEL_WRONG_UDP_CHECKSUM, 25);
 }
 
 /* One depot, all players fresh. */
@@ -153,6 +159,26 @@ static uint32_t save(size_t length)
     return myrthakel_learner_save(M, N, learner_rounds, N, voters, N, learner_values, 2 * N, buffer, length);
 }
 
+/* A framed prepare to port 7, as one byte of it is set and the checksums are not. */
+static uint32_t check(size_t length, size_t at, uint8_t byte)
+{
+    uint8_t frame[MYRTHAKEL_FRAME_LENGTH] = {0};
+    make(packet, 1, 1, 0, 1, MYRTHAKEL_NONE, 0);
+    uint32_t framed = myrthakel_frame_prepare(packet, MYRTHAKEL_PACKET_LENGTH, (uint8_t[6]){2}, (uint8_t[6]){2, 1}, 1, 2, 3, 7, frame, MYRTHAKEL_FRAME_LENGTH);
+    frame[at] = byte;
+    return framed == 106 ? myrthakel_frame_check(7, frame, length) : framed;
+}
+
+static void frame_answers(void)
+{
+    ANSWER(MYRTHAKEL_WRONG_FRAME_LENGTH, check(77, 0, 2));
+    ANSWER(MYRTHAKEL_WRONG_FRAME_HEADER, check(78, 12, 9));
+    ANSWER(MYRTHAKEL_WRONG_IPV4_CHECKSUM, check(78, 26, 9));
+    ANSWER(MYRTHAKEL_WRONG_UDP_HEADER, check(78, 37, 9));
+    ANSWER(MYRTHAKEL_WRONG_UDP_CHECKSUM, check(78, 77, 9));
+    TAKEN(MYRTHAKEL_FRAME_LENGTH, check(MYRTHAKEL_FRAME_LENGTH, 0, 2) == 106);
+}
+
 static void answers(void)
 {
     make_fresh();
@@ -192,5 +218,6 @@ int main(void)
     numbers();
     kinds();
     answers();
+    frame_answers();
     return told();
 }
