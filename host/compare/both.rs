@@ -1,6 +1,7 @@
 //! Each call on both sides, and which kinds of input it met: a kind counts only where the call looks at it, which its answer tells.
 
 use crate::digest::Content;
+use crate::frames::{self, word, IPV4_CHECKSUM, LENGTH, PACKET, UDP_CHECKSUM};
 use crate::inputs::TOP_BIT;
 use crate::tables::*;
 use crate::{calls, model, Comparison};
@@ -17,6 +18,14 @@ pub const KIND_TAKEN: &str = "each kind taken";
 pub const KIND_BROKEN: &str = "each kind refused by 5";
 pub const SWITCH_FAR: &str = "each kind with its switch number and 65,536";
 pub const KIND_FAR: &str = "each kind and 256";
+pub const FRAME_LENGTH: &str = "each length up to 100";
+pub const FLIPPED_BIT: &str = "each bit from byte 12 on flipped";
+pub const HEADER_FAULT: &str = "each reason of 22 alone, sums right";
+pub const UDP_FAULT: &str = "each reason of 24 alone, sums right";
+pub const IPV4_ZERO: &str = "IPv4 checksum 0000 taken";
+pub const IPV4_ONES: &str = "ffff for it refused";
+pub const UDP_ONES: &str = "UDP checksum ffff taken";
+pub const UDP_ZERO: &str = "0000 for it refused";
 
 pub type PacketWrite = (Fields, Vec<u8>);
 pub type PacketRead = (Vec<u8>, Fields);
@@ -31,15 +40,26 @@ pub type LearnerDeliver = (Settings, LearnerTables, Vec<u8>, u32);
 pub type LearnerFirstHole = (Settings, LearnerTables, u32);
 pub type LearnerSave = (Settings, LearnerTables, Vec<u8>);
 pub type LearnerReadSaved = (Settings, Vec<u8>, LearnerTables);
+pub type PrimaryFrame = (Settings, u16, Vec<u8>, Vec<u32>);
+pub type AcceptorFrame = (Settings, u32, u16, Vec<u8>, AcceptorTables);
+pub type BackupFrame = (Settings, u32, u16, Vec<u8>, BackupTables);
+pub type LearnerFrame = (Settings, u16, Vec<u8>, LearnerTables);
+pub type FramePrepare = (Vec<u8>, Addresses, Vec<u8>);
+pub type FrameCheck = (u16, Vec<u8>);
+
+/// All but 7 and the refusals of a frame come after these, or where there is no frame.
+fn passed_frame(answer: u32) -> bool {
+    answer != 7 && !(21..=25).contains(&answer)
+}
 
 /// 10 to 17 and the verdicts come after the look at the cell, all others before.
 fn looked_at_cell(answer: u32) -> bool {
-    answer >= 10
+    answer >= 10 && passed_frame(answer)
 }
 
 /// The fields of the packet were judged.
 fn looked_at_fields(answer: u32) -> bool {
-    answer >= 5 && answer != 7
+    answer >= 5 && passed_frame(answer)
 }
 
 fn instance_of(packet: &[u8]) -> usize {
@@ -248,4 +268,104 @@ pub fn learner_read_saved(comparison: &mut Comparison, input: LearnerReadSaved) 
         }
     }
     after
+}
+
+// Frames
+
+/// The number of the reason, where it is one alone.
+fn lone_fault(faults: &[bool]) -> Option<u32> {
+    let mut numbers = (0..).zip(faults).filter_map(|(number, fault)| fault.then_some(number));
+    numbers.next().filter(|_| numbers.next().is_none())
+}
+
+fn saw_frame(comparison: &mut Comparison, answer: u32, port: u16, frame: &[u8]) {
+    if answer == 7 {
+        return;
+    }
+    comparison.saw(FRAME_LENGTH, frame.len() as u32);
+    if frame.len() != LENGTH {
+        return;
+    }
+    let found = (word(frame, IPV4_CHECKSUM), word(frame, UDP_CHECKSUM));
+    let right = (frames::ipv4_checksum(frame), frames::udp_checksum(frame));
+    let (header, udp) = (frames::header_faults(frame), frames::udp_faults(port, frame));
+    match answer {
+        22 if found == right && udp == [false; 2] => lone_fault(&header).into_iter().for_each(|number| comparison.saw(HEADER_FAULT, number)),
+        24 if found == right => lone_fault(&udp).into_iter().for_each(|number| comparison.saw(UDP_FAULT, number)),
+        23 if right.0 == 0 && found.0 == 0xffff => comparison.saw(IPV4_ONES, 0),
+        25 if right.1 == 0xffff && found.1 == 0 => comparison.saw(UDP_ZERO, 0),
+        _ if passed_frame(answer) && found.0 == 0 => comparison.saw(IPV4_ZERO, 0),
+        _ if passed_frame(answer) && found.1 == 0xffff => comparison.saw(UDP_ONES, 0),
+        _ => {}
+    }
+}
+
+pub fn primary_frame(comparison: &mut Comparison, input: PrimaryFrame) -> PrimaryFrame {
+    let archive = |lent: &mut PrimaryFrame| calls::primary_frame(lent.0, lent.1, &mut lent.2, &mut lent.3);
+    let (answer, after) = comparison.compare(&input, archive, |lent| frames::primary_frame(lent.0, lent.1, &mut lent.2, &mut lent.3));
+    comparison.saw(M, input.0.acceptors);
+    saw_frame(comparison, answer, input.1, &input.2);
+    if passed_frame(answer) {
+        saw_packet(comparison, answer, &input.2[PACKET..]);
+        saw_next(comparison, answer, input.0, input.3[0]);
+    }
+    after
+}
+
+pub fn acceptor_frame(comparison: &mut Comparison, input: AcceptorFrame) -> AcceptorFrame {
+    let archive = |lent: &mut AcceptorFrame| calls::acceptor_frame(lent.0, lent.1, lent.2, &mut lent.3, &mut lent.4);
+    let (answer, after) = comparison.compare(&input, archive, |lent| frames::acceptor_frame(lent.0, lent.1, lent.2, &mut lent.3, &mut lent.4));
+    comparison.saw(M, input.0.acceptors);
+    saw_frame(comparison, answer, input.2, &input.3);
+    if passed_frame(answer) {
+        saw_packet(comparison, answer, &input.3[PACKET..]);
+    }
+    if looked_at_cell(answer) {
+        saw_value(comparison, &input.4.values, instance_of(&input.3[PACKET..]));
+    }
+    after
+}
+
+pub fn backup_frame(comparison: &mut Comparison, input: BackupFrame) -> BackupFrame {
+    let archive = |lent: &mut BackupFrame| calls::backup_frame(lent.0, lent.1, lent.2, &mut lent.3, &mut lent.4);
+    let (answer, after) = comparison.compare(&input, archive, |lent| frames::backup_frame(lent.0, lent.1, lent.2, &mut lent.3, &mut lent.4));
+    comparison.saw(M, input.0.acceptors);
+    saw_frame(comparison, answer, input.2, &input.3);
+    if looked_at_cell(answer) {
+        saw_backup_cell(comparison, answer, &input.4, instance_of(&input.3[PACKET..]));
+    }
+    after
+}
+
+pub fn learner_frame(comparison: &mut Comparison, input: LearnerFrame) -> LearnerFrame {
+    let archive = |lent: &mut LearnerFrame| calls::learner_frame(lent.0, lent.1, &mut lent.2, &mut lent.3);
+    let (answer, after) = comparison.compare(&input, archive, |lent| frames::learner_frame(lent.0, lent.1, &lent.2, &mut lent.3));
+    comparison.saw(M, input.0.acceptors);
+    saw_frame(comparison, answer, input.1, &input.2);
+    if looked_at_cell(answer) {
+        saw_learner_cell(comparison, answer, &input.3, instance_of(&input.2[PACKET..]));
+    }
+    after
+}
+
+/// What it framed has a checksum of either form now and then.
+pub fn frame_prepare(comparison: &mut Comparison, input: FramePrepare) {
+    let archive = |lent: &mut FramePrepare| calls::frame_prepare(&mut lent.0, &mut lent.1, &mut lent.2);
+    let (answer, after) = comparison.compare(&input, archive, |lent| frames::frame_prepare(&lent.0, &lent.1, &mut lent.2));
+    if answer == 21 || answer == DONE {
+        saw_frame(comparison, answer, input.1.port_to, &after.2);
+    }
+}
+
+pub fn frame_check(comparison: &mut Comparison, input: FrameCheck) {
+    let archive = |lent: &mut FrameCheck| calls::frame_check(lent.0, &mut lent.1);
+    let (answer, _) = comparison.compare(&input, archive, |lent| frames::frame_check(lent.0, &lent.1));
+    saw_frame(comparison, answer, input.0, &input.1);
+}
+
+/// It has no port: the frame's own is taken for it, so that of 24 one reason is left.
+pub fn frame_seal(comparison: &mut Comparison, input: Vec<u8>) {
+    let (answer, after) = comparison.compare(&input, |lent| calls::frame_seal(lent), |lent| frames::frame_seal(lent));
+    let port = if after.len() == LENGTH { word(&after, frames::PORT_TO) } else { 0 };
+    saw_frame(comparison, answer, port, &after);
 }

@@ -129,6 +129,50 @@ extern "C" {
         sets: *mut u8, sets_length: usize,
         values: *mut u64, values_length: usize,
     ) -> u32;
+
+    fn myrthakel_primary_frame(
+        acceptors: u32, instances: u32, port: u16,
+        frame: *mut u8, frame_length: usize,
+        next: *mut u32, next_length: usize,
+    ) -> u32;
+
+    fn myrthakel_acceptor_frame(
+        acceptors: u32, instances: u32, own: u32, port: u16,
+        frame: *mut u8, frame_length: usize,
+        rounds: *mut u32, rounds_length: usize,
+        vote_rounds: *mut u32, vote_rounds_length: usize,
+        values: *mut u64, values_length: usize,
+    ) -> u32;
+
+    fn myrthakel_backup_frame(
+        acceptors: u32, instances: u32, own: u32, port: u16,
+        frame: *mut u8, frame_length: usize,
+        rounds: *mut u32, rounds_length: usize,
+        phases: *mut u8, phases_length: usize,
+        sets: *mut u8, sets_length: usize,
+        best_vote_rounds: *mut u32, best_vote_rounds_length: usize,
+        best_values: *mut u64, best_values_length: usize,
+        own_values: *mut u64, own_values_length: usize,
+    ) -> u32;
+
+    fn myrthakel_learner_frame(
+        acceptors: u32, instances: u32, port: u16,
+        frame: *const u8, frame_length: usize,
+        rounds: *mut u32, rounds_length: usize,
+        sets: *mut u8, sets_length: usize,
+        values: *mut u64, values_length: usize,
+    ) -> u32;
+
+    fn myrthakel_frame_prepare(
+        packet: *const u8, packet_length: usize,
+        ethernet_to: *const u8, ethernet_from: *const u8,
+        ip_from: u32, ip_to: u32, port_from: u16, port_to: u16,
+        frame: *mut u8, frame_length: usize,
+    ) -> u32;
+
+    fn myrthakel_frame_check(port: u16, frame: *const u8, frame_length: usize) -> u32;
+
+    fn myrthakel_frame_seal(frame: *mut u8, frame_length: usize) -> u32;
 }
 
 #[rustfmt::skip]
@@ -351,4 +395,74 @@ pub fn learner_read_saved(settings: Settings, saved: &mut [u8], tables: &mut Lea
             tables.values.as_mut_ptr(), tables.values.len(),
         )
     }
+}
+
+pub fn primary_frame(settings: Settings, port: u16, frame: &mut [u8], next: &mut [u32]) -> u32 {
+    let Settings { acceptors, instances } = settings;
+    unsafe { myrthakel_primary_frame(acceptors, instances, port, frame.as_mut_ptr(), frame.len(), next.as_mut_ptr(), next.len()) }
+}
+
+#[rustfmt::skip]
+pub fn acceptor_frame(settings: Settings, own: u32, port: u16, frame: &mut [u8], tables: &mut AcceptorTables) -> u32 {
+    let Settings { acceptors, instances } = settings;
+    unsafe {
+        myrthakel_acceptor_frame(
+            acceptors, instances, own, port,
+            frame.as_mut_ptr(), frame.len(),
+            tables.rounds.as_mut_ptr(), tables.rounds.len(),
+            tables.vote_rounds.as_mut_ptr(), tables.vote_rounds.len(),
+            tables.values.as_mut_ptr(), tables.values.len(),
+        )
+    }
+}
+
+#[rustfmt::skip]
+pub fn backup_frame(settings: Settings, own: u32, port: u16, frame: &mut [u8], tables: &mut BackupTables) -> u32 {
+    let Settings { acceptors, instances } = settings;
+    unsafe {
+        myrthakel_backup_frame(
+            acceptors, instances, own, port,
+            frame.as_mut_ptr(), frame.len(),
+            tables.rounds.as_mut_ptr(), tables.rounds.len(),
+            tables.phases.as_mut_ptr(), tables.phases.len(),
+            tables.sets.as_mut_ptr(), tables.sets.len(),
+            tables.best_vote_rounds.as_mut_ptr(), tables.best_vote_rounds.len(),
+            tables.best_values.as_mut_ptr(), tables.best_values.len(),
+            tables.own_values.as_mut_ptr(), tables.own_values.len(),
+        )
+    }
+}
+
+#[rustfmt::skip]
+pub fn learner_frame(settings: Settings, port: u16, frame: &mut [u8], tables: &mut LearnerTables) -> u32 {
+    let Settings { acceptors, instances } = settings;
+    unsafe {
+        myrthakel_learner_frame(
+            acceptors, instances, port,
+            frame.as_mut_ptr(), frame.len(),
+            tables.rounds.as_mut_ptr(), tables.rounds.len(),
+            tables.sets.as_mut_ptr(), tables.sets.len(),
+            tables.values.as_mut_ptr(), tables.values.len(),
+        )
+    }
+}
+
+#[rustfmt::skip]
+pub fn frame_prepare(packet: &mut [u8], addresses: &mut Addresses, frame: &mut [u8]) -> u32 {
+    unsafe {
+        myrthakel_frame_prepare(
+            packet.as_mut_ptr(), packet.len(),
+            addresses.ethernet_to.as_mut_ptr(), addresses.ethernet_from.as_mut_ptr(),
+            addresses.ip_from, addresses.ip_to, addresses.port_from, addresses.port_to,
+            frame.as_mut_ptr(), frame.len(),
+        )
+    }
+}
+
+pub fn frame_check(port: u16, frame: &mut [u8]) -> u32 {
+    unsafe { myrthakel_frame_check(port, frame.as_mut_ptr(), frame.len()) }
+}
+
+pub fn frame_seal(frame: &mut [u8]) -> u32 {
+    unsafe { myrthakel_frame_seal(frame.as_mut_ptr(), frame.len()) }
 }

@@ -1,11 +1,15 @@
 //! Calls the archives and the model on the same inputs and compares the answer and everything lent, byte for byte.
-//! Usage: compare COUNT SEED. Each call is compared on its sweeps and COUNT times its share in scenes by chance, on inputs of its own stream. Then come
-//! the digests, of each call and of all, and the last line is 'N passed, M failed', where N counts the calls that agreed.
+//! Usage: compare COUNT SEED. The model is held to the change request's own frames. Then each call is compared on its sweeps and COUNT times its share in scenes
+//! by chance, on inputs of its own stream. Then come the digests, of each call and of all, and the last line is 'N passed, M failed', where N counts the calls
+//! that agreed and those frames.
 
 mod borders;
 mod both;
 mod calls;
 mod digest;
+mod frame_cases;
+mod frame_inputs;
+mod frames;
 mod inputs;
 mod model;
 mod random;
@@ -23,94 +27,133 @@ use tables::*;
 #[global_allocator]
 static MEMORY: borders::Bordered = borders::Bordered;
 
-/// An exported call: how often it is compared beside others, what the paper lets it answer (its refusals, then its verdicts), the kinds of input that are to
-/// come up, each with how many numbers of it from 0, and where the inputs come from.
+/// Kinds of input that are to come up, each with how many numbers of it from 0.
+type Kinds = &'static [(&'static str, u32)];
+
+/// An exported call: how often it is compared beside others, what the paper lets it answer (its refusals, then its verdicts), its kinds of input, and where the
+/// inputs come from.
 struct Call {
     name: &'static str,
     share: u64,
     answers: &'static [u32],
-    kinds: &'static [(&'static str, u32)],
+    kinds: &'static [Kinds],
     sweep: fn(&mut Comparison),
     scene: fn(&mut Comparison, Settings),
 }
 
 const PRIMARY_ANSWERS: &[u32] = &[7, 1, 2, 3, 4, 5, 6, 17, 12, TO_ACCEPTORS];
-const PRIMARY_KINDS: &[(&str, u32)] = &[(both::M, 256), (both::NEXT_WITHIN, 1), (both::NEXT_FAR, 1), (both::PACKET_TOP_BIT, 1)];
-const BACKUP_KINDS: &[(&str, u32)] = &[(both::M, 256), (both::PHASE, 256), (both::SET, 256), (both::CELL_TOP_BIT, 1)];
-const LEARNER_KINDS: &[(&str, u32)] = &[(both::M, 256), (both::SET, 256), (both::CELL_TOP_BIT, 1)];
+const PRIMARY_KINDS: Kinds = &[(both::M, 256), (both::NEXT_WITHIN, 1), (both::NEXT_FAR, 1), (both::PACKET_TOP_BIT, 1)];
+const SETTINGS_KINDS: Kinds = &[(both::M, 256)];
+const ACCEPTOR_KINDS: Kinds = &[(both::M, 256), (both::PACKET_TOP_BIT, 1), (both::CELL_TOP_BIT, 1)];
+const BACKUP_KINDS: Kinds = &[(both::M, 256), (both::PHASE, 256), (both::SET, 256), (both::CELL_TOP_BIT, 1)];
+const LEARNER_KINDS: Kinds = &[(both::M, 256), (both::SET, 256), (both::CELL_TOP_BIT, 1)];
+const SUM_KINDS: Kinds = &[(both::FRAME_LENGTH, 101), (both::IPV4_ZERO, 1), (both::UDP_ONES, 1)];
+const FRAME_KINDS: Kinds = &[(both::FLIPPED_BIT, 528), (both::HEADER_FAULT, 5), (both::UDP_FAULT, 2), (both::IPV4_ONES, 1), (both::UDP_ZERO, 1)];
 
 #[rustfmt::skip]
 const CALLS: &[Call] = &[
     Call {
         name: "packet_write", share: 1, answers: &[1, 4, 5, DONE],
-        kinds: &[(both::KIND_TAKEN, 5), (both::KIND_BROKEN, 5), (both::SWITCH_FAR, 5), (both::KIND_FAR, 5)],
+        kinds: &[&[(both::KIND_TAKEN, 5), (both::KIND_BROKEN, 5), (both::SWITCH_FAR, 5), (both::KIND_FAR, 5)]],
         sweep: sweeps::packet_write, scene: scenes::packet_write,
     },
     Call {
         name: "packet_read", share: 1, answers: &[1, 2, 3, 4, 5, DONE],
-        kinds: &[(both::KIND_TAKEN, 5), (both::KIND_BROKEN, 5), (both::PACKET_TOP_BIT, 1)],
+        kinds: &[&[(both::KIND_TAKEN, 5), (both::KIND_BROKEN, 5), (both::PACKET_TOP_BIT, 1)]],
         sweep: sweeps::packet_read, scene: scenes::packet_read,
     },
     Call {
-        name: "primary_fresh", share: 1, answers: &[7, DONE], kinds: &[(both::M, 256)],
+        name: "primary_fresh", share: 1, answers: &[7, DONE], kinds: &[SETTINGS_KINDS],
         sweep: sweeps::primary_fresh, scene: scenes::primary_fresh,
     },
     Call {
-        name: "acceptor_fresh", share: 1, answers: &[7, DONE], kinds: &[(both::M, 256)],
+        name: "acceptor_fresh", share: 1, answers: &[7, DONE], kinds: &[SETTINGS_KINDS],
         sweep: sweeps::acceptor_fresh, scene: scenes::acceptor_fresh,
     },
     Call {
-        name: "backup_fresh", share: 1, answers: &[7, DONE], kinds: &[(both::M, 256)],
+        name: "backup_fresh", share: 1, answers: &[7, DONE], kinds: &[SETTINGS_KINDS],
         sweep: sweeps::backup_fresh, scene: scenes::backup_fresh,
     },
     Call {
-        name: "learner_fresh", share: 1, answers: &[7, DONE], kinds: &[(both::M, 256)],
+        name: "learner_fresh", share: 1, answers: &[7, DONE], kinds: &[SETTINGS_KINDS],
         sweep: sweeps::learner_fresh, scene: scenes::learner_fresh,
     },
     Call {
-        name: "primary_step", share: 1, answers: PRIMARY_ANSWERS, kinds: PRIMARY_KINDS,
+        name: "primary_step", share: 1, answers: PRIMARY_ANSWERS, kinds: &[PRIMARY_KINDS],
         sweep: sweeps::primary_step, scene: scenes::primary_step,
     },
     Call {
-        name: "primary_request", share: 1, answers: PRIMARY_ANSWERS, kinds: PRIMARY_KINDS,
+        name: "primary_request", share: 1, answers: PRIMARY_ANSWERS, kinds: &[PRIMARY_KINDS],
         sweep: sweeps::primary_request, scene: scenes::primary_request,
     },
     Call {
         name: "acceptor_step", share: 3, answers: &[7, 1, 2, 3, 4, 5, 6, 8, 17, 10, TO_LEADER, TO_LEARNERS],
-        kinds: &[(both::M, 256), (both::PACKET_TOP_BIT, 1), (both::CELL_TOP_BIT, 1)],
+        kinds: &[ACCEPTOR_KINDS],
         sweep: sweeps::acceptor_step, scene: scenes::acceptor_step,
     },
     Call {
-        name: "backup_start", share: 1, answers: &[7, 1, 8, 17, 16, TO_ACCEPTORS], kinds: BACKUP_KINDS,
+        name: "backup_start", share: 1, answers: &[7, 1, 8, 17, 16, TO_ACCEPTORS], kinds: &[BACKUP_KINDS],
         sweep: sweeps::backup_start, scene: scenes::backup_start,
     },
     Call {
-        name: "backup_step", share: 3, answers: &[7, 1, 2, 3, 4, 5, 6, 8, 9, 17, 11, 15, HOLD, TO_ACCEPTORS], kinds: BACKUP_KINDS,
+        name: "backup_step", share: 3, answers: &[7, 1, 2, 3, 4, 5, 6, 8, 9, 17, 11, 15, HOLD, TO_ACCEPTORS], kinds: &[BACKUP_KINDS],
         sweep: sweeps::backup_step, scene: scenes::backup_step,
     },
     Call {
-        name: "learner_step", share: 4, answers: &[7, 1, 2, 3, 4, 5, 6, 8, 9, 17, 14, 10, 13, 15, HOLD, DECIDED], kinds: LEARNER_KINDS,
+        name: "learner_step", share: 4, answers: &[7, 1, 2, 3, 4, 5, 6, 8, 9, 17, 14, 10, 13, 15, HOLD, DECIDED], kinds: &[LEARNER_KINDS],
         sweep: sweeps::learner_step, scene: scenes::learner_step,
     },
     Call {
-        name: "learner_answer", share: 1, answers: &[7, 8, 17, NOT_YET, DONE], kinds: LEARNER_KINDS,
+        name: "learner_answer", share: 1, answers: &[7, 8, 17, NOT_YET, DONE], kinds: &[LEARNER_KINDS],
         sweep: sweeps::learner_answer, scene: scenes::learner_answer,
     },
     Call {
-        name: "learner_deliver", share: 1, answers: &[7, 1, 17, DONE], kinds: LEARNER_KINDS,
+        name: "learner_deliver", share: 1, answers: &[7, 1, 17, DONE], kinds: &[LEARNER_KINDS],
         sweep: sweeps::learner_deliver, scene: scenes::learner_deliver,
     },
     Call {
-        name: "learner_first_hole", share: 1, answers: &[7, 17, NO_HOLE, DONE], kinds: LEARNER_KINDS,
+        name: "learner_first_hole", share: 1, answers: &[7, 17, NO_HOLE, DONE], kinds: &[LEARNER_KINDS],
         sweep: sweeps::learner_first_hole, scene: scenes::learner_first_hole,
     },
     Call {
-        name: "learner_save", share: 1, answers: &[7, 1, 17, DONE], kinds: LEARNER_KINDS,
+        name: "learner_save", share: 1, answers: &[7, 1, 17, DONE], kinds: &[LEARNER_KINDS],
         sweep: sweeps::learner_save, scene: scenes::learner_save,
     },
     Call {
-        name: "learner_read_saved", share: 1, answers: &[7, 1, 2, 3, 17, DONE], kinds: LEARNER_KINDS,
+        name: "learner_read_saved", share: 1, answers: &[7, 1, 2, 3, 17, DONE], kinds: &[LEARNER_KINDS],
         sweep: sweeps::learner_read_saved, scene: scenes::learner_read_saved,
+    },
+    Call {
+        name: "primary_frame", share: 1, answers: &[7, 21, 22, 23, 24, 25, 2, 3, 4, 5, 6, 17, 12, TO_ACCEPTORS],
+        kinds: &[PRIMARY_KINDS, SUM_KINDS, FRAME_KINDS],
+        sweep: sweeps::primary_frame, scene: scenes::primary_frame,
+    },
+    Call {
+        name: "acceptor_frame", share: 3, answers: &[7, 21, 22, 23, 24, 25, 2, 3, 4, 5, 6, 8, 17, 10, TO_LEADER, TO_LEARNERS],
+        kinds: &[ACCEPTOR_KINDS, SUM_KINDS, FRAME_KINDS],
+        sweep: sweeps::acceptor_frame, scene: scenes::acceptor_frame,
+    },
+    Call {
+        name: "backup_frame", share: 3, answers: &[7, 21, 22, 23, 24, 25, 2, 3, 4, 5, 6, 8, 9, 17, 11, 15, HOLD, TO_ACCEPTORS],
+        kinds: &[BACKUP_KINDS, SUM_KINDS, FRAME_KINDS],
+        sweep: sweeps::backup_frame, scene: scenes::backup_frame,
+    },
+    Call {
+        name: "learner_frame", share: 3, answers: &[7, 21, 22, 23, 24, 25, 2, 3, 4, 5, 6, 8, 9, 17, 14, 10, 13, 15, HOLD, DECIDED],
+        kinds: &[LEARNER_KINDS, SUM_KINDS, FRAME_KINDS],
+        sweep: sweeps::learner_frame, scene: scenes::learner_frame,
+    },
+    Call {
+        name: "frame_prepare", share: 1, answers: &[1, 2, 3, 4, 5, 6, 21, DONE], kinds: &[SUM_KINDS],
+        sweep: sweeps::frame_prepare, scene: scenes::frame_prepare,
+    },
+    Call {
+        name: "frame_check", share: 2, answers: &[21, 22, 23, 24, 25, DONE], kinds: &[SUM_KINDS, FRAME_KINDS],
+        sweep: sweeps::frame_check, scene: scenes::frame_check,
+    },
+    Call {
+        name: "frame_seal", share: 1, answers: &[21, 22, 24, DONE], kinds: &[SUM_KINDS, &[(both::HEADER_FAULT, 5), (both::UDP_FAULT, 1)]],
+        sweep: sweeps::frame_seal, scene: scenes::frame_seal,
     },
 ];
 
@@ -170,16 +213,17 @@ impl Comparison {
     fn report(&self, call: &Call) -> usize {
         let seen = |answer: &u32| *self.answers.get(answer).unwrap_or(&0);
         let had = |kind: &str, numbers: u32| (0..numbers).map(|number| *self.kinds.get(&(kind, number)).unwrap_or(&0)).min().unwrap_or(0);
+        let call_kinds = call.kinds.concat();
         let answers: Vec<String> = call.answers.iter().map(|answer| format!("{}: {}", answer, seen(answer))).collect();
-        let kinds: Vec<String> = call.kinds.iter().map(|(kind, numbers)| format!("{}: {}", kind, had(kind, *numbers))).collect();
+        let kinds: Vec<String> = call_kinds.iter().map(|(kind, numbers)| format!("{}: {}", kind, had(kind, *numbers))).collect();
         println!("{} {}; {}", self.call, answers.join(", "), kinds.join(", "));
         let mut faults = Vec::new();
         let missing = call.answers.iter().filter(|answer| seen(answer) == 0);
         faults.extend(missing.map(|answer| format!("never answered {}", answer)));
         let beyond = self.answers.keys().filter(|answer| !call.answers.contains(answer));
         faults.extend(beyond.map(|answer| format!("answered {}, which the paper does not let it", answer)));
-        for (kind, numbers) in call.kinds {
-            let missing = (0..*numbers).filter(|number| !self.kinds.contains_key(&(kind, *number)));
+        for (kind, numbers) in call_kinds {
+            let missing = (0..numbers).filter(|number| !self.kinds.contains_key(&(kind, *number)));
             faults.extend(missing.map(|number| format!("never had {}: {}", kind, number)));
         }
         faults.iter().for_each(|fault| println!("FAILED: {} {}", self.call, fault));
@@ -190,6 +234,13 @@ impl Comparison {
 fn main() {
     let (count, seed) = random::count_and_seed();
     let (mut passed, mut failed) = (0, 0);
+    for (case, holds) in frame_cases::of_the_model() {
+        passed += holds as u64;
+        failed += !holds as usize;
+        if !holds {
+            println!("FAILED: the model on {}", case);
+        }
+    }
     let mut digests = Vec::new();
     let mut told = Instant::now();
     for call in CALLS {

@@ -37,7 +37,7 @@ macro_rules! numbers {
     };
 }
 
-numbers!(u8, u32, u64, u128);
+numbers!(u8, u16, u32, u64, u128);
 
 impl<T: Content> Content for Vec<T> {
     fn add_to(&self, digest: &mut Digest) {
@@ -60,6 +60,7 @@ parts! {
     Settings: acceptors instances;
     Start: instance floor value;
     Fields: kind switch instance round vote_round value;
+    Addresses: ethernet_to ethernet_from ip_from ip_to port_from port_to;
     AcceptorTables: rounds vote_rounds values;
     BackupTables: rounds phases sets best_vote_rounds best_values own_values;
     LearnerTables: rounds sets values;

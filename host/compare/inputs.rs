@@ -262,7 +262,7 @@ impl Inputs {
         }
     }
 
-    fn flip_bit(&mut self, bytes: &mut [u8]) {
+    pub fn flip_bit(&mut self, bytes: &mut [u8]) {
         let bit = self.random.below(8 * bytes.len());
         bytes[bit / 8] ^= 1 << (bit % 8);
     }

@@ -12,7 +12,7 @@ pub fn set_value(values: &mut [u64], instance: usize, value: u128) {
 
 // Numbers
 
-fn allowed(settings: Settings) -> bool {
+pub fn allowed(settings: Settings) -> bool {
     matches!(settings.acceptors, 3 | 5 | 7) && (1..=1024).contains(&settings.instances)
 }
 
@@ -195,7 +195,7 @@ impl AcceptorTables {
     }
 }
 
-fn acceptor_allowed(settings: Settings, tables: &AcceptorTables) -> bool {
+pub fn acceptor_allowed(settings: Settings, tables: &AcceptorTables) -> bool {
     let instances = settings.instances as usize;
     allowed(settings) && tables.rounds.len() == instances && tables.vote_rounds.len() == instances && tables.values.len() == 2 * instances
 }
@@ -259,7 +259,7 @@ impl BackupTables {
     }
 }
 
-fn backup_allowed(settings: Settings, tables: &BackupTables) -> bool {
+pub fn backup_allowed(settings: Settings, tables: &BackupTables) -> bool {
     let instances = settings.instances as usize;
     allowed(settings)
         && tables.rounds.len() == instances
@@ -270,7 +270,7 @@ fn backup_allowed(settings: Settings, tables: &BackupTables) -> bool {
         && tables.own_values.len() == 2 * instances
 }
 
-fn backup_number(own: u32) -> bool {
+pub fn backup_number(own: u32) -> bool {
     (1..=3).contains(&own)
 }
 
@@ -386,7 +386,7 @@ impl LearnerTables {
     }
 }
 
-fn learner_allowed(settings: Settings, tables: &LearnerTables) -> bool {
+pub fn learner_allowed(settings: Settings, tables: &LearnerTables) -> bool {
     let instances = settings.instances as usize;
     allowed(settings) && tables.rounds.len() == instances && tables.sets.len() == instances && tables.values.len() == 2 * instances
 }

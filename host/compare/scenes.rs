@@ -3,7 +3,7 @@
 use crate::inputs::{Cell, Inputs};
 use crate::model::{self, PREPARE, PROMISE, PROPOSE, REQUEST, VOTE};
 use crate::tables::*;
-use crate::{both, Comparison};
+use crate::{both, frames, Comparison};
 
 /// Each table of a player by its number, so that one alone can be given a wrong length.
 pub trait Tables: Clone {
@@ -112,7 +112,15 @@ fn cell(rounds: &[u32], values: &[u64], instance: u32) -> Option<Cell> {
     (instance < rounds.len() && instance < values.len() / 2).then(|| (rounds[instance], value_of(values, instance)))
 }
 
-// Packets
+// Packets and frames
+
+const ALL_KINDS: [u8; 5] = [REQUEST, PREPARE, PROMISE, PROPOSE, VOTE];
+
+/// A frame around the packet, with the port that it is judged by.
+fn framed(comparison: &mut Comparison, packet: &[u8]) -> (u16, Vec<u8>) {
+    let port = comparison.inputs.port();
+    (port, comparison.inputs.frame(port, packet))
+}
 
 pub fn packet_write(comparison: &mut Comparison, settings: Settings) {
     for _ in 0..16 {
@@ -126,8 +134,42 @@ pub fn packet_read(comparison: &mut Comparison, settings: Settings) {
     for _ in 0..16 {
         let lent = comparison.inputs.fields(settings);
         let instance = comparison.inputs.instance(settings);
-        let packet = comparison.inputs.packet(&[REQUEST, PREPARE, PROMISE, PROPOSE, VOTE], settings, instance, None);
+        let packet = comparison.inputs.packet(&ALL_KINDS, settings, instance, None);
         both::packet_read(comparison, (packet, lent));
+    }
+}
+
+pub fn frame_prepare(comparison: &mut Comparison, settings: Settings) {
+    for _ in 0..16 {
+        let instance = comparison.inputs.instance(settings);
+        let packet = comparison.inputs.packet(&[PREPARE], settings, instance, None);
+        let addresses = comparison.inputs.addresses();
+        let buffer = comparison.inputs.buffer(frames::LENGTH);
+        both::frame_prepare(comparison, (packet, addresses, buffer));
+    }
+}
+
+/// A frame around a packet of any kind, or bytes that are no frame at all.
+fn any_frame(comparison: &mut Comparison, settings: Settings) -> (u16, Vec<u8>) {
+    if comparison.inputs.random.chance(5) {
+        return (comparison.inputs.port(), comparison.inputs.buffer(frames::LENGTH));
+    }
+    let instance = comparison.inputs.instance(settings);
+    let packet = comparison.inputs.packet(&ALL_KINDS, settings, instance, None);
+    framed(comparison, &packet)
+}
+
+pub fn frame_check(comparison: &mut Comparison, settings: Settings) {
+    for _ in 0..16 {
+        let input = any_frame(comparison, settings);
+        both::frame_check(comparison, input);
+    }
+}
+
+pub fn frame_seal(comparison: &mut Comparison, settings: Settings) {
+    for _ in 0..16 {
+        let (_, frame) = any_frame(comparison, settings);
+        both::frame_seal(comparison, frame);
     }
 }
 
@@ -172,7 +214,7 @@ fn any_instances(inputs: &mut Inputs, settings: Settings) -> Settings {
     Settings { instances, ..settings }
 }
 
-pub fn primary_step(comparison: &mut Comparison, settings: Settings) {
+fn primary(comparison: &mut Comparison, settings: Settings, call: fn(&mut Comparison, both::PrimaryStep) -> Vec<u32>) {
     let settings = any_instances(&mut comparison.inputs, settings);
     let mut next = vec![comparison.inputs.next(settings)];
     for _ in 0..12 {
@@ -182,11 +224,22 @@ pub fn primary_step(comparison: &mut Comparison, settings: Settings) {
         if spoiled {
             spoil(inputs, &mut input.0, &mut input.2);
         }
-        let after = both::primary_step(comparison, input);
+        let after = call(comparison, input);
         if !spoiled {
-            next = after.2;
+            next = after;
         }
     }
+}
+
+pub fn primary_step(comparison: &mut Comparison, settings: Settings) {
+    primary(comparison, settings, |comparison, input| both::primary_step(comparison, input).2);
+}
+
+pub fn primary_frame(comparison: &mut Comparison, settings: Settings) {
+    primary(comparison, settings, |comparison, (settings, packet, next)| {
+        let (port, frame) = framed(comparison, &packet);
+        both::primary_frame(comparison, (settings, port, frame, next)).3
+    });
 }
 
 pub fn primary_request(comparison: &mut Comparison, settings: Settings) {
@@ -204,7 +257,7 @@ pub fn primary_request(comparison: &mut Comparison, settings: Settings) {
 
 // Acceptor
 
-pub fn acceptor_step(comparison: &mut Comparison, settings: Settings) {
+fn acceptor(comparison: &mut Comparison, settings: Settings, call: fn(&mut Comparison, both::AcceptorStep) -> AcceptorTables) {
     let own = comparison.inputs.random.below(settings.acceptors as usize) as u32;
     let mut tables = comparison.inputs.acceptor_tables(settings);
     for _ in 0..24 {
@@ -218,11 +271,22 @@ pub fn acceptor_step(comparison: &mut Comparison, settings: Settings) {
         } else if spoiled {
             spoil(inputs, &mut input.0, &mut input.3);
         }
-        let after = both::acceptor_step(comparison, input);
+        let after = call(comparison, input);
         if !spoiled {
-            tables = after.3;
+            tables = after;
         }
     }
+}
+
+pub fn acceptor_step(comparison: &mut Comparison, settings: Settings) {
+    acceptor(comparison, settings, |comparison, input| both::acceptor_step(comparison, input).3);
+}
+
+pub fn acceptor_frame(comparison: &mut Comparison, settings: Settings) {
+    acceptor(comparison, settings, |comparison, (settings, own, packet, tables)| {
+        let (port, frame) = framed(comparison, &packet);
+        both::acceptor_frame(comparison, (settings, own, port, frame, tables)).4
+    });
 }
 
 // Backup
@@ -266,7 +330,7 @@ pub fn backup_start(comparison: &mut Comparison, settings: Settings) {
     }
 }
 
-pub fn backup_step(comparison: &mut Comparison, settings: Settings) {
+fn backup(comparison: &mut Comparison, settings: Settings, call: fn(&mut Comparison, both::BackupStep) -> BackupTables) {
     let own = 1 + comparison.inputs.random.below(3) as u32;
     let mut tables = comparison.inputs.backup_tables(settings, own);
     for _ in 0..32 {
@@ -280,11 +344,22 @@ pub fn backup_step(comparison: &mut Comparison, settings: Settings) {
         if spoiled {
             spoil_backup(inputs, &mut input.0, &mut input.1, &mut input.3);
         }
-        let after = both::backup_step(comparison, input);
+        let after = call(comparison, input);
         if !spoiled {
-            tables = after.3;
+            tables = after;
         }
     }
+}
+
+pub fn backup_step(comparison: &mut Comparison, settings: Settings) {
+    backup(comparison, settings, |comparison, input| both::backup_step(comparison, input).3);
+}
+
+pub fn backup_frame(comparison: &mut Comparison, settings: Settings) {
+    backup(comparison, settings, |comparison, (settings, own, packet, tables)| {
+        let (port, frame) = framed(comparison, &packet);
+        both::backup_frame(comparison, (settings, own, port, frame, tables)).4
+    });
 }
 
 // Learner
@@ -294,7 +369,7 @@ fn vote(inputs: &mut Inputs, settings: Settings, tables: &LearnerTables) -> Vec<
     inputs.packet(&[VOTE], settings, instance, cell(&tables.rounds, &tables.values, instance))
 }
 
-pub fn learner_step(comparison: &mut Comparison, settings: Settings) {
+fn learner(comparison: &mut Comparison, settings: Settings, call: fn(&mut Comparison, both::LearnerStep) -> LearnerTables) {
     let mut tables = comparison.inputs.learner_tables(settings);
     for _ in 0..32 {
         let inputs = &mut comparison.inputs;
@@ -303,11 +378,22 @@ pub fn learner_step(comparison: &mut Comparison, settings: Settings) {
         if spoiled {
             spoil(inputs, &mut input.0, &mut input.2);
         }
-        let after = both::learner_step(comparison, input);
+        let after = call(comparison, input);
         if !spoiled {
-            tables = after.2;
+            tables = after;
         }
     }
+}
+
+pub fn learner_step(comparison: &mut Comparison, settings: Settings) {
+    learner(comparison, settings, |comparison, input| both::learner_step(comparison, input).2);
+}
+
+pub fn learner_frame(comparison: &mut Comparison, settings: Settings) {
+    learner(comparison, settings, |comparison, (settings, packet, tables)| {
+        let (port, frame) = framed(comparison, &packet);
+        both::learner_frame(comparison, (settings, port, frame, tables)).3
+    });
 }
 
 /// A call that leaves a learner's tables, between votes that move them. It gets settings as they are, and settings and tables that are spoiled now and then.

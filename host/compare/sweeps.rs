@@ -1,5 +1,6 @@
 //! Inputs in rows: a good input of a call with one or two of its numbers gone through, so that each comes up whatever chance does.
 
+use crate::frames::*;
 use crate::inputs::TOP_BIT;
 use crate::model::{self, Message, PREPARE, PROMISE, PROPOSE, REQUEST, VOTE};
 use crate::scenes::Tables;
@@ -8,6 +9,7 @@ use crate::{both, Comparison};
 
 const VALUES: [u128; 5] = [0, TOP_BIT, 1 << 64, 1 << 63, 1];
 const ACCEPTORS: [u32; 3] = [3, 5, 7];
+const DEPOT: Settings = Settings { acceptors: 3, instances: 1 };
 
 fn packet(kind: u8, switch: u32, instance: u32, round: u32, vote_round: u32, value: u128) -> Vec<u8> {
     let mut packet = vec![0; 36];
@@ -98,6 +100,98 @@ pub fn learner_fresh(comparison: &mut Comparison) {
     fresh(comparison, both::learner_fresh);
 }
 
+// Frames
+
+const PORT: u16 = 47_036;
+
+/// A frame to the port, whose free fields hold something: don't-fragment is set, and both sums are right.
+fn frame(packet: &[u8]) -> Vec<u8> {
+    let mut frame = vec![0x5a; LENGTH];
+    set_word(&mut frame, ETHER_TYPE, 0x0800);
+    frame[FIRST_BYTE] = 0x45;
+    set_word(&mut frame, TOTAL_LENGTH, 64);
+    set_word(&mut frame, FRAGMENT, 0x4000);
+    frame[PROTOCOL] = 17;
+    set_word(&mut frame, PORT_TO, PORT);
+    set_word(&mut frame, UDP_LENGTH, 44);
+    frame[PACKET..].copy_from_slice(packet);
+    set_checksums(&mut frame);
+    frame
+}
+
+/// The frame with one of its words changed, and the sums that are right then.
+fn changed(frame: &[u8], at: usize, to: u16) -> Vec<u8> {
+    let mut frame = frame.to_vec();
+    set_word(&mut frame, at, to);
+    set_checksums(&mut frame);
+    frame
+}
+
+/// The frame with a sum of ffff, by a free word that is given what the others lack; then with the other form of zero in the checksum.
+fn forms_of_zero(frame: &[u8], free: usize, at: usize, checksum: fn(&[u8]) -> u16) -> [Vec<u8>; 2] {
+    let without = changed(frame, free, 0);
+    let right = changed(frame, free, checksum(&without));
+    let mut wrong = right.clone();
+    set_word(&mut wrong, at, !word(&right, at));
+    [right, wrong]
+}
+
+/// Around a packet that is taken: every length, every word of the header changed in many ways with right sums, and both forms of zero. Each bit from byte 12 on
+/// is flipped and then counted.
+fn frames(comparison: &mut Comparison, packet: &[u8], call: impl Fn(&mut Comparison, Vec<u8>)) {
+    let good = frame(packet);
+    for length in 0..=100 {
+        let mut frame = good.clone();
+        frame.resize(length, 0);
+        call(comparison, frame);
+    }
+    for at in (ETHER_TYPE..PACKET).step_by(2) {
+        let right = word(&good, at);
+        let near = (0..16).map(|bit| right ^ 1 << bit).chain([0, 1, 0xff, 0xff00, 0xffff, right.wrapping_add(1), right.swap_bytes()]);
+        near.for_each(|to| call(comparison, changed(&good, at, to)));
+    }
+    forms_of_zero(&good, IDENTIFICATION, IPV4_CHECKSUM, ipv4_checksum).into_iter().for_each(|frame| call(comparison, frame));
+    forms_of_zero(&good, PORT_FROM, UDP_CHECKSUM, udp_checksum).into_iter().for_each(|frame| call(comparison, frame));
+    for bit in 0..8 * (LENGTH - ETHER_TYPE) {
+        let mut frame = good.clone();
+        frame[ETHER_TYPE + bit / 8] ^= 1 << (bit % 8);
+        call(comparison, frame);
+        comparison.saw(both::FLIPPED_BIT, bit as u32);
+    }
+}
+
+pub fn frame_prepare(comparison: &mut Comparison) {
+    let addresses = |ip_from, port_from| Addresses {
+        ethernet_to: vec![1, 2, 3, 4, 5, 6],
+        ethernet_from: vec![7, 8, 9, 10, 11, 12],
+        ip_from,
+        ip_to: 0x0d0e_0f10,
+        port_from,
+        port_to: 0x1112,
+    };
+    for Fields { kind, switch, instance, round, vote_round, value } in all_fields() {
+        let packet = packet(kind as u8, switch, instance, round, vote_round, value);
+        both::frame_prepare(comparison, (packet, addresses(NONE, 0xffff), vec![0xee; LENGTH]));
+    }
+    let prepare = packet(PREPARE, 1, 0, 1, NONE, 0);
+    for length in 0..=100 {
+        both::frame_prepare(comparison, (prepare.clone(), addresses(0, 0), vec![0xee; length]));
+    }
+    // the free halves of these are given what the sums lack
+    let mut framed = vec![0; LENGTH];
+    let _ = crate::frames::frame_prepare(&prepare, &addresses(0, 0), &mut framed);
+    both::frame_prepare(comparison, (prepare.clone(), addresses(ipv4_checksum(&framed) as u32, 0), vec![0xee; LENGTH]));
+    both::frame_prepare(comparison, (prepare, addresses(0, udp_checksum(&framed)), vec![0xee; LENGTH]));
+}
+
+pub fn frame_check(comparison: &mut Comparison) {
+    frames(comparison, &request(), |comparison, frame| both::frame_check(comparison, (PORT, frame)));
+}
+
+pub fn frame_seal(comparison: &mut Comparison) {
+    frames(comparison, &request(), both::frame_seal);
+}
+
 // Primary
 
 fn request() -> Vec<u8> {
@@ -109,13 +203,20 @@ fn nexts() -> impl Iterator<Item = u32> {
     (0..=1026).chain([65_535, 65_536, 65_537, 65_536 + 1023, 65_536 + 1024, 1 << 31, NONE - 1, NONE])
 }
 
-pub fn primary_step(comparison: &mut Comparison) {
-    settings(comparison, |comparison, settings| {
-        both::primary_step(comparison, (settings, request(), vec![0]));
-    });
+fn primary(comparison: &mut Comparison, call: fn(&mut Comparison, both::PrimaryStep)) {
+    settings(comparison, |comparison, settings| call(comparison, (settings, request(), vec![0])));
     for next in nexts() {
-        both::primary_step(comparison, (Settings { acceptors: 3, instances: 1024 }, request(), vec![next]));
+        call(comparison, (Settings { acceptors: 3, instances: 1024 }, request(), vec![next]));
     }
+}
+
+pub fn primary_step(comparison: &mut Comparison) {
+    primary(comparison, |comparison, input| drop(both::primary_step(comparison, input)));
+}
+
+pub fn primary_frame(comparison: &mut Comparison) {
+    primary(comparison, |comparison, (settings, packet, next)| drop(both::primary_frame(comparison, (settings, PORT, frame(&packet), next))));
+    frames(comparison, &request(), |comparison, frame| drop(both::primary_frame(comparison, (DEPOT, PORT, frame, vec![0]))));
 }
 
 pub fn primary_request(comparison: &mut Comparison) {
@@ -129,29 +230,38 @@ pub fn primary_request(comparison: &mut Comparison) {
 
 // Acceptor
 
-pub fn acceptor_step(comparison: &mut Comparison) {
+fn acceptor(comparison: &mut Comparison, call: fn(&mut Comparison, both::AcceptorStep)) {
     settings(comparison, |comparison, settings| {
         let propose = packet(PROPOSE, 0, 0, 0, NONE, TOP_BIT);
-        both::acceptor_step(comparison, (settings, 0, propose, AcceptorTables::fresh(settings.instances as usize)));
+        call(comparison, (settings, 0, propose, AcceptorTables::fresh(settings.instances as usize)));
     });
     for round in [0, 1, 4, 5, NONE] {
         for vote_round in [NONE, 0, 1, 4, 5] {
             for value in VALUES {
                 let tables = AcceptorTables { rounds: vec![round], vote_rounds: vec![vote_round], values: vec![(value >> 64) as u64, value as u64] };
-                orders(comparison, tables);
+                orders().into_iter().for_each(|packet| call(comparison, (DEPOT, 2, packet, tables.clone())));
             }
         }
     }
 }
 
 /// Prepares and proposes for the one cell.
-fn orders(comparison: &mut Comparison, tables: AcceptorTables) {
-    let settings = Settings { acceptors: 3, instances: 1 };
-    for round in [1, 5] {
-        both::acceptor_step(comparison, (settings, 2, packet(PREPARE, 1, 0, round, NONE, 0), tables.clone()));
-    }
-    for (round, value) in [(0, TOP_BIT), (1, 0), (5, TOP_BIT)] {
-        both::acceptor_step(comparison, (settings, 2, packet(PROPOSE, round % 4, 0, round, NONE, value), tables.clone()));
+fn orders() -> Vec<Vec<u8>> {
+    let prepares = [1, 5].map(|round| packet(PREPARE, 1, 0, round, NONE, 0));
+    let proposes = [(0, TOP_BIT), (1, 0), (5, TOP_BIT)].map(|(round, value)| packet(PROPOSE, round % 4, 0, round, NONE, value));
+    prepares.into_iter().chain(proposes).collect()
+}
+
+pub fn acceptor_step(comparison: &mut Comparison) {
+    acceptor(comparison, |comparison, input| drop(both::acceptor_step(comparison, input)));
+}
+
+pub fn acceptor_frame(comparison: &mut Comparison) {
+    acceptor(comparison, |comparison, (settings, own, packet, tables)| {
+        both::acceptor_frame(comparison, (settings, own, PORT, frame(&packet), tables));
+    });
+    for order in orders() {
+        frames(comparison, &order, |comparison, frame| drop(both::acceptor_frame(comparison, (DEPOT, 2, PORT, frame, AcceptorTables::fresh(1)))));
     }
 }
 
@@ -209,18 +319,33 @@ pub fn backup_start(comparison: &mut Comparison) {
     }
 }
 
-pub fn backup_step(comparison: &mut Comparison) {
+fn backup(comparison: &mut Comparison, call: fn(&mut Comparison, both::BackupStep)) {
     settings(comparison, |comparison, settings| {
         let mut tables = BackupTables::fresh(settings.instances as usize);
         let start = Start { instance: 0, floor: 0, value: 0 };
         let _ = model::backup_start(settings, 1, start, &mut [0; 36], &mut tables);
-        both::backup_step(comparison, (settings, 1, packet(PROMISE, 0, 0, 1, NONE, 0), tables));
+        call(comparison, (settings, 1, packet(PROMISE, 0, 0, 1, NONE, 0), tables));
     });
     for acceptors in ACCEPTORS {
         for cell in backup_cells(acceptors) {
             let promise = packet(PROMISE, acceptors - 1, 0, 5, 0, TOP_BIT);
-            both::backup_step(comparison, (Settings { acceptors, instances: 1 }, 1, promise, cell));
+            call(comparison, (Settings { acceptors, instances: 1 }, 1, promise, cell));
         }
+    }
+}
+
+pub fn backup_step(comparison: &mut Comparison) {
+    backup(comparison, |comparison, input| drop(both::backup_step(comparison, input)));
+}
+
+/// A promise that is held, and one that makes a majority.
+pub fn backup_frame(comparison: &mut Comparison) {
+    backup(comparison, |comparison, (settings, own, packet, tables)| {
+        both::backup_frame(comparison, (settings, own, PORT, frame(&packet), tables));
+    });
+    for set in [0, 1] {
+        let promise = packet(PROMISE, 2, 0, 5, 0, TOP_BIT);
+        frames(comparison, &promise, |comparison, frame| drop(both::backup_frame(comparison, (DEPOT, 1, PORT, frame, backup_cell(1, set, NONE, 0)))));
     }
 }
 
@@ -244,11 +369,22 @@ fn learner(comparison: &mut Comparison, call: fn(&mut Comparison, Settings, Lear
     learner_cells(comparison, call);
 }
 
+fn vote() -> Vec<u8> {
+    packet(VOTE, 2, 0, 5, 5, TOP_BIT)
+}
+
 pub fn learner_step(comparison: &mut Comparison) {
     learner(comparison, |comparison, settings, tables| {
-        let vote = packet(VOTE, 2, 0, 5, 5, TOP_BIT);
-        both::learner_step(comparison, (settings, vote, tables));
+        both::learner_step(comparison, (settings, vote(), tables));
     });
+}
+
+/// A vote that is held.
+pub fn learner_frame(comparison: &mut Comparison) {
+    learner(comparison, |comparison, settings, tables| {
+        both::learner_frame(comparison, (settings, PORT, frame(&vote()), tables));
+    });
+    frames(comparison, &vote(), |comparison, frame| drop(both::learner_frame(comparison, (DEPOT, PORT, frame, LearnerTables::fresh(1)))));
 }
 
 pub fn learner_answer(comparison: &mut Comparison) {

@@ -37,6 +37,17 @@ pub struct Fields {
     pub value: u128,
 }
 
+/// Between whom a framed prepare goes. An Ethernet address is a list of six bytes, so that it stands in memory with borders when it is lent.
+#[derive(Clone, PartialEq, Debug)]
+pub struct Addresses {
+    pub ethernet_to: Vec<u8>,
+    pub ethernet_from: Vec<u8>,
+    pub ip_from: u32,
+    pub ip_to: u32,
+    pub port_from: u16,
+    pub port_to: u16,
+}
+
 #[derive(Clone, PartialEq, Debug)]
 pub struct AcceptorTables {
     pub rounds: Vec<u32>,
