@@ -1,7 +1,7 @@
 //! Calls the archives and the model on the same inputs and compares the answer and everything lent, byte for byte.
-//! Usage: compare COUNT SEED. The model is held to the change request's own frames. Then each call is compared on its sweeps and COUNT times its share in scenes
-//! by chance, on inputs of its own stream. Then come the digests, of each call and of all, and the last line is 'N passed, M failed', where N counts the calls
-//! that agreed and those frames.
+//! Usage: compare COUNT SEED. The model is held to the change request's frames. Then each call is compared on its sweeps and COUNT times its share in scenes by
+//! chance, on inputs of its own stream. Then come the digests, of each call and of all, and the last line is 'N passed, M failed', where N counts the frames of
+//! the request and the calls that agreed.
 
 mod borders;
 mod both;

@@ -1,5 +1,6 @@
 //! Runs of all players of one depot over the archives' calls, on a network that loses, doubles, delays and reorders; after every step, demand 3.
-//! Usage: simulate RUNS SEED. The last line is 'N passed, M failed', in runs.
+//! Usage: simulate RUNS SEED. So many runs hand over packets, and as many hand over each packet in a frame with a header by chance, on a network that damages
+//! frames as well. The last line is 'N passed, M failed', in runs.
 
 mod borders;
 mod calls;
@@ -34,11 +35,14 @@ struct Seen {
     takeover: bool,
     null_repair: bool,
     kept: bool,
+    damage: bool,
 }
 
 struct Run {
     random: Random,
     settings: Settings,
+    /// Whether packets are handed over in frames. What was sent is packets all the same: a copy is one of the 36 bytes, in whatever frame.
+    framed: bool,
     next: Vec<u32>,
     acceptors: Vec<AcceptorTables>,
     backups: Vec<BackupTables>,
@@ -72,7 +76,7 @@ fn fields(packet: &mut [u8]) -> Result<Fields, String> {
 }
 
 impl Run {
-    fn new(seed: u64) -> Self {
+    fn new(seed: u64, framed: bool) -> Self {
         let mut random = Random::new(seed);
         let settings = Settings { acceptors: random.pick(&[3, 3, 5, 7]), instances: 1 + random.below(4) as u32 };
         let instances = settings.instances as usize;
@@ -82,6 +86,7 @@ impl Run {
         Run {
             random,
             settings,
+            framed,
             next: fresh(settings, calls::primary_fresh, vec![1]),
             acceptors: vec![acceptor; settings.acceptors as usize],
             backups: vec![backup; BACKUPS],
@@ -108,7 +113,11 @@ impl Run {
             } else if chance < takeovers + requests {
                 self.request()?;
             } else if chance < takeovers + requests + 3 && !self.sent.is_empty() {
-                self.malformed()?;
+                if self.framed && self.random.chance(50) {
+                    self.damaged()?;
+                } else {
+                    self.malformed()?;
+                }
             } else if chance < takeovers + requests + 6 && !self.sent.is_empty() {
                 let packet = self.sent[self.random.below(self.sent.len())].clone();
                 let player = self.any_player();
@@ -196,25 +205,36 @@ impl Run {
         }
         let player = self.any_player();
         let answer = self.hand_over(player, packet.clone())?;
-        if (1..=5).contains(&answer) {
+        let length_refusal = if self.framed { 21 } else { 1 };
+        if (2..=5).contains(&answer) && packet.len() == 36 || answer == length_refusal && packet.len() != 36 {
             Ok(())
         } else {
             Err(format!("malformed packet {:02x?} got {}", packet, answer))
         }
     }
 
+    /// A packet sent earlier, in a frame of which one bit from the EtherType on is flipped on its way to anyone. The length is right, so 21 is not the number.
+    fn damaged(&mut self) -> Result<(), String> {
+        let mut packet = self.sent[self.random.below(self.sent.len())].clone();
+        let port = self.random.number() as u16;
+        let mut frame = self.frame(port, &mut packet)?;
+        let bit = 8 * 12 + self.random.below(8 * (78 - 12));
+        frame[bit / 8] ^= 1 << (bit % 8);
+        let before = frame.clone();
+        let player = self.any_player();
+        let answer = self.frame_step(player, port, &mut frame);
+        self.seen.damage = true;
+        if (22..=25).contains(&answer) && frame == before {
+            Ok(())
+        } else {
+            Err(format!("damaged frame {:02x?} to port {} got {} and is {:02x?}", before, port, answer, frame))
+        }
+    }
+
     /// One packet to one player; what goes out travels on.
     fn hand_over(&mut self, player: Player, mut packet: Packet) -> Result<u32, String> {
-        let settings = self.settings;
-        let answer = match player {
-            // the two forms of its call are one player
-            Player::Primary if self.random.chance(50) => calls::primary_request(settings, &mut packet, &mut self.next[0]),
-            Player::Primary => calls::primary_step(settings, &mut packet, &mut self.next),
-            Player::Acceptor(own) => calls::acceptor_step(settings, own as u32, &mut packet, &mut self.acceptors[own]),
-            Player::Backup(index) => calls::backup_step(settings, index as u32 + 1, &mut packet, &mut self.backups[index]),
-            Player::Learner(index) => calls::learner_step(settings, &mut packet, &mut self.learners[index]),
-        };
-        let known = matches!(answer, 1..=6 | 8..=16 | TO_ACCEPTORS | TO_LEADER | TO_LEARNERS | HOLD | DECIDED);
+        let answer = if self.framed { self.step_in_frame(player, &mut packet)? } else { self.step(player, &mut packet) };
+        let known = matches!(answer, 1..=6 | 8..=16 | 21 | TO_ACCEPTORS | TO_LEADER | TO_LEARNERS | HOLD | DECIDED);
         if !known {
             return Err(format!("{:02x?} got {}", packet, answer));
         }
@@ -230,6 +250,68 @@ impl Run {
             _ => {}
         }
         Ok(answer)
+    }
+
+    fn step(&mut self, player: Player, packet: &mut [u8]) -> u32 {
+        let settings = self.settings;
+        match player {
+            // the two forms of its call are one player
+            Player::Primary if self.random.chance(50) => calls::primary_request(settings, packet, &mut self.next[0]),
+            Player::Primary => calls::primary_step(settings, packet, &mut self.next),
+            Player::Acceptor(own) => calls::acceptor_step(settings, own as u32, packet, &mut self.acceptors[own]),
+            Player::Backup(index) => calls::backup_step(settings, index as u32 + 1, packet, &mut self.backups[index]),
+            Player::Learner(index) => calls::learner_step(settings, packet, &mut self.learners[index]),
+        }
+    }
+
+    fn frame_step(&mut self, player: Player, port: u16, frame: &mut [u8]) -> u32 {
+        let settings = self.settings;
+        match player {
+            Player::Primary => calls::primary_frame(settings, port, frame, &mut self.next),
+            Player::Acceptor(own) => calls::acceptor_frame(settings, own as u32, port, frame, &mut self.acceptors[own]),
+            Player::Backup(index) => calls::backup_frame(settings, index as u32 + 1, port, frame, &mut self.backups[index]),
+            Player::Learner(index) => calls::learner_frame(settings, port, frame, &mut self.learners[index]),
+        }
+    }
+
+    /// The packet's step in a frame of its own. What is sent passes with the same port, under the header that came; otherwise the frame stays byte for byte.
+    fn step_in_frame(&mut self, player: Player, packet: &mut Packet) -> Result<u32, String> {
+        let port = self.random.number() as u16;
+        let before = self.frame(port, packet)?;
+        let mut frame = before.clone();
+        let answer = self.frame_step(player, port, &mut frame);
+        let sent = matches!(answer, TO_ACCEPTORS | TO_LEADER | TO_LEARNERS);
+        let header_stays = frame[..24] == before[..24] && frame[26..40] == before[26..40];
+        if answer == 1 || sent && !(header_stays && calls::frame_check(port, &mut frame) == DONE) || !sent && frame != before {
+            return Err(format!("frame {:02x?} to port {} got {} and is {:02x?}", before, port, answer, frame));
+        }
+        packet.copy_from_slice(&frame[42..]);
+        Ok(answer)
+    }
+
+    /// A frame to the port around the packet, with all that no call judges by chance; a prepare's is mostly made by its own call. Around a packet of a wrong
+    /// length it has that fault alone, and is not sealed.
+    fn frame(&mut self, port: u16, packet: &mut [u8]) -> Result<Vec<u8>, String> {
+        let (ethernet_to, ethernet_from) = (self.random.bytes(6), self.random.bytes(6));
+        let (ip_from, ip_to) = (self.random.number() as u32, self.random.number() as u32);
+        let mut addresses = Addresses { ethernet_to, ethernet_from, ip_from, ip_to, port_from: self.random.number() as u16, port_to: port };
+        let mut frame = self.random.bytes(78);
+        if self.random.chance(70) && calls::frame_prepare(packet, &mut addresses, &mut frame) == DONE {
+            return Ok(frame);
+        }
+        frame[12..15].copy_from_slice(&[0x08, 0x00, 0x45]);
+        frame[16..18].copy_from_slice(&[0, 64]);
+        frame[20..22].copy_from_slice(&[self.random.pick(&[0x00, 0x40, 0x80, 0xc0]), 0]);
+        frame[23] = 17;
+        frame[36..38].copy_from_slice(&port.to_be_bytes());
+        frame[38..40].copy_from_slice(&[0, 44]);
+        frame.truncate(42);
+        frame.extend_from_slice(packet);
+        match (calls::frame_seal(&mut frame), packet.len()) {
+            (DONE, 36) => Ok(frame),
+            (21, length) if length != 36 => Ok(frame),
+            (answer, _) => Err(format!("sealing {:02x?} answered {}", frame, answer)),
+        }
     }
 
     fn send(&mut self, answer: u32, packet: &[u8]) {
@@ -350,36 +432,47 @@ impl Run {
 
 fn main() {
     let (runs, seed) = random::count_and_seed();
+    let (over_packets, over_frames) = (simulate(runs, seed, false), simulate(runs, seed, true));
+    let (passed, failed) = (over_packets.0 + over_frames.0, over_packets.1 + over_frames.1);
+    println!("{} passed, {} failed", passed, failed);
+    std::process::exit((failed > 0) as i32);
+}
+
+/// So many runs over packets or over frames: how many passed and failed, where what no run had counts as a failure.
+fn simulate(runs: u64, seed: u64, framed: bool) -> (u64, u64) {
+    let over = if framed { "frames" } else { "packets" };
     let mut seeds = Random::new(seed);
     let (mut passed, mut failed) = (0, 0);
-    let mut seen = [("a decision", 0), ("a takeover that decided", 0), ("a hole repaired by null", 0), ("a decided value kept by a takeover", 0)];
+    let mut seen = vec![("a decision", 0), ("a takeover that decided", 0), ("a hole repaired by null", 0), ("a decided value kept by a takeover", 0)];
+    if framed {
+        seen.push(("a damaged frame", 0));
+    }
     let mut told = Instant::now();
     for _ in 0..runs {
         let seed = seeds.number();
-        let mut run = Run::new(seed);
+        let mut run = Run::new(seed, framed);
         match run.go() {
             Ok(()) => passed += 1,
             Err(reason) => {
                 failed += 1;
                 if failed <= 10 {
-                    println!("FAILED: run {:x} with {:?}: {}", seed, run.settings, reason);
+                    println!("FAILED: run {:x} over {} with {:?}: {}", seed, over, run.settings, reason);
                 }
             }
         }
-        let had = [run.seen.decision, run.seen.takeover, run.seen.null_repair, run.seen.kept];
+        let had = [run.seen.decision, run.seen.takeover, run.seen.null_repair, run.seen.kept, run.seen.damage];
         seen.iter_mut().zip(had).for_each(|((_, count), had)| *count += had as u64);
         if told.elapsed() >= Duration::from_secs(5) {
-            eprintln!("simulate: {} of {} runs", passed + failed, runs);
+            eprintln!("simulate: {} of {} runs over {}", passed + failed, runs, over);
             told = Instant::now();
         }
     }
     for (what, count) in seen {
-        println!("runs with {}: {}", what, count);
+        println!("runs over {} with {}: {}", over, what, count);
         if count == 0 {
-            println!("FAILED: no run had {}", what);
+            println!("FAILED: no run over {} had {}", over, what);
             failed += 1;
         }
     }
-    println!("{} passed, {} failed", passed, failed);
-    std::process::exit((failed > 0) as i32);
+    (passed, failed)
 }
