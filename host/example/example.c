@@ -1,7 +1,7 @@
 /*
- * An example host: acceptors 0 to 2, the primary, backup 1 and a learner, each a process that talks over UDP on loopback. This process plays the
- * client, the operator who chooses the leader, and the wires, which can lose a packet or hold it back. It prints what happened line by line, and
- * counts whether it is what should have happened.
+ * An example host: acceptors 0 to 2, the primary, backup 1 and a learner, each a process with a UDP socket on loopback, which stands for its port on a switch:
+ * what goes over it are whole frames. This process plays the client, the operator who chooses the leader, and the wires, which can lose a frame or hold it
+ * back. It prints what happened line by line, and counts whether it is what should have happened. The frames that reached a player are left in a file.
  *
  * host/example/run [FIRST_PORT [PAUSE]] builds and runs it; with a pause in milliseconds it waits at each heading.
  */
@@ -238,24 +238,33 @@ static void from_the_stop(void)
         "pass 1001, pass 1002, null, pass 1004, pass 1005, pass 1003", "none");
 }
 
-/* A number from low to high in decimal, or the program ends with its usage. */
-static int read_argument(const char *text, long low, long high)
+static _Noreturn void tell_usage(void)
 {
-    char *end;
-    long number = strtol(text, &end, 10);
-    if (*text != '\0' && *end == '\0' && number >= low && number <= high)
-        return (int)number;
     fprintf(stderr, "usage: host/example/run [FIRST_PORT [PAUSE]], with a port from 1024 to %d and a pause of up to 60000 milliseconds\n",
             65536 - PORTS);
     exit(2);
 }
 
+/* A number from low to high in decimal, or the program ends with its usage. */
+static int read_argument(const char *text, long low, long high)
+{
+    char *end;
+    long number = strtol(text, &end, 10);
+    if (*text == '\0' || *end != '\0' || number < low || number > high)
+        tell_usage();
+    return (int)number;
+}
+
+/* The first argument, the file for frames, is given by host/example/run. */
 int main(int count, char **arguments)
 {
-    int first_port = count > 1 ? read_argument(arguments[1], 1024, 65536 - PORTS) : FIRST_PORT;
-    pause_milliseconds = count > 2 ? read_argument(arguments[2], 0, 60000) : 0;
+    if (count < 2)
+        tell_usage();
+    int first_port = count > 2 ? read_argument(arguments[2], 1024, 65536 - PORTS) : FIRST_PORT;
+    pause_milliseconds = count > 3 ? read_argument(arguments[3], 0, 60000) : 0;
     setvbuf(stdout, NULL, _IOLBF, 0);
-    start_players((uint16_t)first_port);
+    start_players((uint16_t)first_port, arguments[1]);
+    printf("The frames that reach a player go to %s, which packet analysers open.\n", arguments[1]);
     printf("Acceptors 0 to 2, the primary, backup 1 and a learner run, each a process with its own UDP port.\n");
     if (pause_milliseconds > 0)
         name_processes();

@@ -1,4 +1,4 @@
-/* The operator's hands: starts and kills players, carries packets over the wires, and hears what players and wires did. */
+/* The operator's hands: starts and kills players, carries frames over the wires, and hears what players and wires did. */
 #define _POSIX_C_SOURCE 200809L
 #include "operator.h"
 
@@ -37,13 +37,13 @@ typedef struct {
 typedef struct {
     int source, taken;
     uint32_t verdict;
-    uint8_t packet[MYRTHAKEL_PACKET_LENGTH];
+    uint8_t frame[MYRTHAKEL_FRAME_LENGTH];
 } event;
 
 static player players[PLAYERS];
 static wire wires[WIRES];
 static event events[MOST_EVENTS];
-static int event_count, client;
+static int event_count, client, capture;
 static uint16_t first;
 static learned last_learned;
 
@@ -75,11 +75,11 @@ typedef struct {
     halves value;
 } fields;
 
-/* Answers whether the packet has any: a malformed one has none. */
-static int read_fields(const uint8_t *packet, fields *into)
+/* Answers whether the frame's packet has any: a malformed one has none. */
+static int read_fields(const uint8_t *frame, fields *into)
 {
-    return myrthakel_packet_read(packet, MYRTHAKEL_PACKET_LENGTH, &into->kind, &into->switch_number, &into->instance, &into->round, &into->vote_round,
-                                 &into->value.high, &into->value.low) == MYRTHAKEL_DONE;
+    return myrthakel_packet_read(frame + PACKET_AT, MYRTHAKEL_PACKET_LENGTH, &into->kind, &into->switch_number, &into->instance, &into->round,
+                                 &into->vote_round, &into->value.high, &into->value.low) == MYRTHAKEL_DONE;
 }
 
 /* --- Starting and ending --- */
@@ -97,7 +97,7 @@ static int open_port(uint16_t port)
     exit(1);
 }
 
-/* All ports are opened before the first player starts: a port in use is then told with nothing to clean up, and no packet comes too early. */
+/* All ports are opened before the first player starts: a port in use is then told with nothing to clean up, and no frame comes too early. */
 static void open_ports(void)
 {
     for (int i = 0; i < PLAYERS; i++)
@@ -122,18 +122,21 @@ static void keep_only(int own)
     close(client);
 }
 
-/* The primary's and the acceptors' packets go over the wires. */
+/* What the primary and the acceptors send for others than the leader goes over the wires. */
 static place place_of(int who, int control)
 {
-    place here = {.socket = players[who].socket, .control = control, .leader_port = (uint16_t)(first + BACKUP)};
-    for (int i = 0; i < ACCEPTORS; i++)
-        here.acceptor_ports[i] = (uint16_t)(first + (who == PRIMARY ? WIRE(PROPOSE_WIRE + i) : i));
+    place here = {.player = who, .socket = players[who].socket, .control = control, .capture = capture};
+    for (int i = 0; i < PLAYERS; i++)
+        here.ports[i] = (uint16_t)(first + i);
+    if (who == PRIMARY)
+        for (int i = 0; i < ACCEPTORS; i++)
+            here.ports[i] = (uint16_t)(first + WIRE(PROPOSE_WIRE + i));
     if (who < ACCEPTORS)
-        here.learner_port = (uint16_t)(first + WIRE(VOTE_WIRE + who));
+        here.ports[LEARNER] = (uint16_t)(first + WIRE(VOTE_WIRE + who));
     return here;
 }
 
-/* Answers whether it could. A line of one's own keeps commands apart from packets, and its closing tells each side that the other has ended. */
+/* Answers whether it could. A line of one's own keeps commands apart from frames, and its closing tells each side that the other has ended. */
 static int start_player(int who)
 {
     int line[2];
@@ -144,19 +147,24 @@ static int start_player(int who)
     players[who].process = fork();
     if (players[who].process == 0) {
         keep_only(who);
-        play(who, &here);
+        play(&here);
     }
-    /* The player's ends are closed here, so that packets to a player that has ended are lost, as they would be on another machine. */
+    /* The player's ends are closed here, so that frames to a player that has ended are lost, as they would be on another machine. */
     close(line[1]);
     close(players[who].socket);
     players[who].socket = -1;
     return players[who].process > 0;
 }
 
-void start_players(uint16_t first_port)
+void start_players(uint16_t first_port, const char *capture_path)
 {
     first = first_port;
     open_ports();
+    capture = open_capture(capture_path);
+    if (capture < 0) {
+        fprintf(stderr, "%s cannot be written: %s\n", capture_path, strerror(errno));
+        exit(1);
+    }
     for (int i = 0; i < PLAYERS; i++)
         if (!start_player(i)) {
             fprintf(stderr, "the process of %s cannot be started: %s\n", player_name(i), strerror(errno));
@@ -199,13 +207,13 @@ void name_processes(void)
 
 /* --- Hearing --- */
 
-static void keep_event(int source, uint32_t verdict, const uint8_t *packet)
+static void keep_event(int source, uint32_t verdict, const uint8_t *frame)
 {
     if (event_count == MOST_EVENTS)
         return;
     event *new = &events[event_count++];
     *new = (event){.source = source, .verdict = verdict};
-    memcpy(new->packet, packet, sizeof new->packet);
+    memcpy(new->frame, frame, sizeof new->frame);
 }
 
 static void hear_player(int who)
@@ -215,7 +223,7 @@ static void hear_player(int who)
     if (length == (ssize_t)sizeof heard) {
         if (who == LEARNER && heard.verdict == MYRTHAKEL_DONE)
             last_learned = heard.learned;
-        keep_event(who, heard.verdict, heard.packet);
+        keep_event(who, heard.verdict, heard.frame);
     } else if (length == 0 || (length < 0 && errno != EAGAIN && errno != EINTR)) {
         int status = bury(who);
         if (WIFSIGNALED(status))
@@ -225,22 +233,22 @@ static void hear_player(int who)
     }
 }
 
-/* Passes a packet on, loses it or holds it back, as arranged. The event keeps what is held back. */
+/* Passes a frame on as it is, loses it or holds it back, as arranged. The event keeps what is held back. */
 static void hear_wire(int which)
 {
-    uint8_t packet[MYRTHAKEL_PACKET_LENGTH + 1]; /* one more, so that a longer datagram is not taken for a packet */
+    uint8_t frame[MYRTHAKEL_FRAME_LENGTH + 1]; /* one more, so that a longer datagram is not taken for a frame */
     wire *over = &wires[which];
-    if (recv(over->socket, packet, sizeof packet, MSG_DONTWAIT) != MYRTHAKEL_PACKET_LENGTH)
+    if (recv(over->socket, frame, sizeof frame, MSG_DONTWAIT) != MYRTHAKEL_FRAME_LENGTH)
         return;
     fields f;
     uint32_t what = PASSED_ON;
-    if (read_fields(packet, &f) && f.instance < INSTANCES && over->arranged[f.instance] != 0) {
+    if (read_fields(frame, &f) && f.instance < INSTANCES && over->arranged[f.instance] != 0) {
         what = over->arranged[f.instance];
         over->arranged[f.instance] = 0;
     }
     if (what == PASSED_ON)
-        send_packet(over->socket, over->destination, packet);
-    keep_event(WIRE(which), what, packet);
+        send_frame(over->socket, over->destination, frame);
+    keep_event(WIRE(which), what, frame);
 }
 
 /* Waits so long for something to arrive, and hears it. */
@@ -272,11 +280,11 @@ void listen_for(int milliseconds)
 }
 
 /* The switch number is left out: which of the acceptors' votes comes second and decides is chance. */
-static int is_message(const uint8_t *packet, const message *wanted)
+static int is_message(const uint8_t *frame, const message *wanted)
 {
     fields f;
     halves value = halves_of(wanted->value);
-    return read_fields(packet, &f) && f.kind == wanted->kind && f.instance == wanted->instance && f.round == wanted->round
+    return read_fields(frame, &f) && f.kind == wanted->kind && f.instance == wanted->instance && f.round == wanted->round
            && f.vote_round == wanted->vote_round && f.value.high == value.high && f.value.low == value.low;
 }
 
@@ -284,7 +292,7 @@ static int is_message(const uint8_t *packet, const message *wanted)
 static int take(int source, uint32_t verdict, const message *wanted)
 {
     for (int i = 0; i < event_count; i++)
-        if (!events[i].taken && events[i].source == source && events[i].verdict == verdict && (!wanted || is_message(events[i].packet, wanted)))
+        if (!events[i].taken && events[i].source == source && events[i].verdict == verdict && (!wanted || is_message(events[i].frame, wanted)))
             return events[i].taken = 1;
     return 0;
 }
@@ -340,19 +348,22 @@ void release(uint32_t instance)
 {
     fields f;
     for (int i = 0; i < event_count; i++)
-        if (events[i].verdict == HELD_BACK && read_fields(events[i].packet, &f) && f.instance == instance) {
+        if (events[i].verdict == HELD_BACK && read_fields(events[i].frame, &f) && f.instance == instance) {
             const wire *over = &wires[events[i].source - PLAYERS];
-            send_packet(over->socket, over->destination, events[i].packet);
+            send_frame(over->socket, over->destination, events[i].frame);
         }
 }
 
+/* A client on a machine of its own would write 36 bytes to a UDP socket, and its kernel the frame around them. */
 void send_request(const char *value)
 {
-    uint8_t packet[MYRTHAKEL_PACKET_LENGTH];
+    uint8_t frame[MYRTHAKEL_FRAME_LENGTH];
     halves asked = halves_of(value);
+    begin_frame(frame);
     /* A request of null would be refused, and then nothing is sent. */
-    if (myrthakel_packet_write(MYRTHAKEL_REQUEST, 0, 0, 0, MYRTHAKEL_NONE, asked.high, asked.low, packet, sizeof packet) == MYRTHAKEL_DONE)
-        send_packet(client, (uint16_t)(first + PRIMARY), packet);
+    if (myrthakel_packet_write(MYRTHAKEL_REQUEST, 0, 0, 0, MYRTHAKEL_NONE, asked.high, asked.low, frame + PACKET_AT, MYRTHAKEL_PACKET_LENGTH) == MYRTHAKEL_DONE
+        && address_frame(frame, CLIENT, PRIMARY))
+        send_frame(client, (uint16_t)(first + PRIMARY), frame);
 }
 
 void send_command(int who, uint32_t kind, uint32_t instance, const char *value)

@@ -15,15 +15,15 @@ typedef struct {
 /* The wires from the primary to acceptor i, and from acceptor i to the learner, pass through the operator's hands; backup 1 sends directly. */
 enum { PROPOSE_WIRE, VOTE_WIRE = ACCEPTORS, WIRES = 2 * ACCEPTORS };
 
-/* What a wire did with a packet. Numbers that no call answers, since a wire is heard like a player. */
+/* What a wire did with a frame. Numbers that no call answers, since a wire is heard like a player. */
 enum { PASSED_ON = 200, LOST, HELD_BACK };
 
 /* Players and wires are heard alike: sources below PLAYERS are the players, WIRE(i) is wire i. */
 #define WIRE(wire) (PLAYERS + (wire))
 enum { SOURCES = PLAYERS + WIRES };
 
-/* Opens PLAYERS + WIRES ports from the first on and starts the players. Ends the program with a message where it cannot. */
-void start_players(uint16_t first_port);
+/* Opens PLAYERS + WIRES ports from the first on and the file for frames that reach a player, and starts the players, or ends the program with a message. */
+void start_players(uint16_t first_port, const char *capture_path);
 void end_players(void);
 
 /* Kills a player's process. Answers whether it was running until then. */

@@ -11,41 +11,17 @@
 #define _POSIX_C_SOURCE 200809L
 #include "players.h"
 
-#include <arpa/inet.h>
 #include <errno.h>
 #include <poll.h>
 #include <string.h>
 #include <sys/socket.h>
 #include <unistd.h>
 
-/* One byte more than a packet, so that a datagram that is too long is seen to be, and refused by its length. */
+/* One byte more than a frame, so that a datagram that is too long is seen to be, and refused by its length. */
 typedef struct {
-    uint8_t bytes[MYRTHAKEL_PACKET_LENGTH + 1];
+    uint8_t bytes[MYRTHAKEL_FRAME_LENGTH + 1];
     size_t length;
 } datagram;
-
-uint64_t get_number(const uint8_t *bytes, int width)
-{
-    uint64_t number = 0;
-    for (int i = 0; i < width; i++)
-        number = number << 8 | bytes[i];
-    return number;
-}
-
-void put_number(uint8_t *bytes, int width, uint64_t number)
-{
-    for (int i = width - 1; i >= 0; i--) {
-        bytes[i] = (uint8_t)number;
-        number >>= 8;
-    }
-}
-
-void send_packet(int from, uint16_t port, const uint8_t *packet)
-{
-    struct sockaddr_in to = {.sin_family = AF_INET, .sin_port = htons(port), .sin_addr.s_addr = htonl(INADDR_LOOPBACK)};
-    /* A packet that could not be sent is a lost packet, and those the protocol bears. */
-    (void)sendto(from, packet, MYRTHAKEL_PACKET_LENGTH, 0, (struct sockaddr *)&to, sizeof to);
-}
 
 static void tell_operator(const place *here, const report *what)
 {
@@ -53,18 +29,27 @@ static void tell_operator(const place *here, const report *what)
     (void)send(here->control, what, sizeof *what, MSG_NOSIGNAL);
 }
 
+/* A frame still has the addresses that it came with, so each copy is addressed anew and sealed. */
+static void forward(const place *here, int to, const uint8_t *frame)
+{
+    uint8_t copy[MYRTHAKEL_FRAME_LENGTH];
+    memcpy(copy, frame, sizeof copy);
+    if (address_frame(copy, here->player, to))
+        send_frame(here->socket, here->ports[to], copy);
+}
+
 /* Sends where the verdict says, which is nowhere for hold, decided and every refusal, and reports. */
-static void carry_out(const place *here, uint32_t verdict, const uint8_t *packet)
+static void carry_out(const place *here, uint32_t verdict, const uint8_t *frame)
 {
     report what = {.verdict = verdict};
     if (verdict == MYRTHAKEL_TO_ACCEPTORS)
         for (int i = 0; i < ACCEPTORS; i++)
-            send_packet(here->socket, here->acceptor_ports[i], packet);
+            forward(here, i, frame);
     else if (verdict == MYRTHAKEL_TO_LEADER)
-        send_packet(here->socket, here->leader_port, packet);
+        forward(here, BACKUP, frame);
     else if (verdict == MYRTHAKEL_TO_LEARNERS)
-        send_packet(here->socket, here->learner_port, packet);
-    memcpy(what.packet, packet, sizeof what.packet);
+        forward(here, LEARNER, frame);
+    memcpy(what.frame, frame, sizeof what.frame);
     tell_operator(here, &what);
 }
 
@@ -81,8 +66,8 @@ static int read_command(const place *here, command *order)
     return order->kind != ROLL_CALL;
 }
 
-/* Waits for a packet or a command. Answers 1 for a command. */
-static int next(const place *here, datagram *packet, command *order)
+/* Waits for a frame or a command. Answers 1 for a command. Where a frame cannot be recorded the process ends: the file would tell less than what passed. */
+static int next(const place *here, datagram *frame, command *order)
 {
     for (;;) {
         struct pollfd waiting[2] = {{.fd = here->control, .events = POLLIN}, {.fd = here->socket, .events = POLLIN}};
@@ -94,10 +79,12 @@ static int next(const place *here, datagram *packet, command *order)
         if (waiting[0].revents && read_command(here, order))
             return 1;
         if (waiting[1].revents) {
-            memset(packet, 0, sizeof *packet);
-            ssize_t length = recv(here->socket, packet->bytes, sizeof packet->bytes, MSG_DONTWAIT);
+            memset(frame, 0, sizeof *frame);
+            ssize_t length = recv(here->socket, frame->bytes, sizeof frame->bytes, MSG_DONTWAIT);
             if (length >= 0) {
-                packet->length = (size_t)length;
+                frame->length = (size_t)length;
+                if (!record_frame(here->capture, frame->bytes, frame->length))
+                    _exit(1);
                 return 0;
             }
         }
@@ -114,25 +101,35 @@ static void begin(uint32_t answer)
 static _Noreturn void play_primary(const place *here)
 {
     uint32_t next_instance;
-    datagram packet;
+    datagram frame;
     command order;
     begin(myrthakel_primary_fresh(ACCEPTORS, INSTANCES, &next_instance, 1));
     for (;;)
-        if (!next(here, &packet, &order))
-            carry_out(here, myrthakel_primary_step(ACCEPTORS, INSTANCES, packet.bytes, packet.length, &next_instance, 1), packet.bytes);
+        if (!next(here, &frame, &order))
+            carry_out(here, myrthakel_primary_frame(ACCEPTORS, INSTANCES, FRAME_PORT, frame.bytes, frame.length, &next_instance, 1), frame.bytes);
 }
 
-static _Noreturn void play_acceptor(const place *here, uint32_t own)
+static _Noreturn void play_acceptor(const place *here)
 {
-    uint32_t rounds[INSTANCES], vote_rounds[INSTANCES];
+    uint32_t own = (uint32_t)here->player, rounds[INSTANCES], vote_rounds[INSTANCES];
     uint64_t values[2 * INSTANCES];
-    datagram packet;
+    datagram frame;
     command order;
     begin(myrthakel_acceptor_fresh(ACCEPTORS, INSTANCES, rounds, INSTANCES, vote_rounds, INSTANCES, values, 2 * INSTANCES));
     for (;;)
-        if (!next(here, &packet, &order))
-            carry_out(here, myrthakel_acceptor_step(ACCEPTORS, INSTANCES, own, packet.bytes, packet.length, rounds, INSTANCES, vote_rounds, INSTANCES,
-                                                    values, 2 * INSTANCES), packet.bytes);
+        if (!next(here, &frame, &order))
+            carry_out(here, myrthakel_acceptor_frame(ACCEPTORS, INSTANCES, own, FRAME_PORT, frame.bytes, frame.length, rounds, INSTANCES,
+                                                     vote_rounds, INSTANCES, values, 2 * INSTANCES), frame.bytes);
+}
+
+/* Frames a started prepare, for the first acceptor: each acceptor's copy is addressed anew. Of a start that was refused there is none. */
+static void frame_started(const place *here, uint32_t verdict, const uint8_t *prepare, uint8_t *frame)
+{
+    address own = address_of(here->player), to = address_of(0);
+    memset(frame, 0, MYRTHAKEL_FRAME_LENGTH);
+    if (verdict == MYRTHAKEL_TO_ACCEPTORS)
+        (void)myrthakel_frame_prepare(prepare, MYRTHAKEL_PACKET_LENGTH, to.ethernet, own.ethernet, own.ip, to.ip, FRAME_PORT, FRAME_PORT,
+                                      frame, MYRTHAKEL_FRAME_LENGTH);
 }
 
 static _Noreturn void play_backup(const place *here)
@@ -140,21 +137,25 @@ static _Noreturn void play_backup(const place *here)
     uint32_t rounds[INSTANCES], best_vote_rounds[INSTANCES];
     uint8_t phases[INSTANCES], sets[INSTANCES];
     uint64_t best_values[2 * INSTANCES], own_values[2 * INSTANCES];
-    uint8_t buffer[MYRTHAKEL_PACKET_LENGTH] = {0};
-    datagram packet;
+    uint8_t prepare[MYRTHAKEL_PACKET_LENGTH];
+    datagram frame;
     command order;
     begin(myrthakel_backup_fresh(ACCEPTORS, INSTANCES, rounds, INSTANCES, phases, INSTANCES, sets, INSTANCES, best_vote_rounds, INSTANCES,
                                  best_values, 2 * INSTANCES, own_values, 2 * INSTANCES));
-    for (;;)
-        if (next(here, &packet, &order))
-            carry_out(here, myrthakel_backup_start(ACCEPTORS, INSTANCES, BACKUP_NUMBER, order.instance, order.floor,
-                                                   order.value_high, order.value_low, buffer, sizeof buffer,
-                                                   rounds, INSTANCES, phases, INSTANCES, sets, INSTANCES, best_vote_rounds, INSTANCES,
-                                                   best_values, 2 * INSTANCES, own_values, 2 * INSTANCES), buffer);
-        else
-            carry_out(here, myrthakel_backup_step(ACCEPTORS, INSTANCES, BACKUP_NUMBER, packet.bytes, packet.length,
-                                                  rounds, INSTANCES, phases, INSTANCES, sets, INSTANCES, best_vote_rounds, INSTANCES,
-                                                  best_values, 2 * INSTANCES, own_values, 2 * INSTANCES), packet.bytes);
+    for (;;) {
+        uint32_t verdict;
+        if (next(here, &frame, &order)) {
+            verdict = myrthakel_backup_start(ACCEPTORS, INSTANCES, BACKUP_NUMBER, order.instance, order.floor, order.value_high, order.value_low,
+                                             prepare, sizeof prepare, rounds, INSTANCES, phases, INSTANCES, sets, INSTANCES,
+                                             best_vote_rounds, INSTANCES, best_values, 2 * INSTANCES, own_values, 2 * INSTANCES);
+            frame_started(here, verdict, prepare, frame.bytes);
+        } else {
+            verdict = myrthakel_backup_frame(ACCEPTORS, INSTANCES, BACKUP_NUMBER, FRAME_PORT, frame.bytes, frame.length,
+                                             rounds, INSTANCES, phases, INSTANCES, sets, INSTANCES,
+                                             best_vote_rounds, INSTANCES, best_values, 2 * INSTANCES, own_values, 2 * INSTANCES);
+        }
+        carry_out(here, verdict, frame.bytes);
+    }
 }
 
 typedef struct {
@@ -185,24 +186,24 @@ static void answer_question(const place *here, const learner_tables *tables)
 static _Noreturn void play_learner(const place *here)
 {
     learner_tables tables;
-    datagram packet;
+    datagram frame;
     command order;
     begin(myrthakel_learner_fresh(ACCEPTORS, INSTANCES, tables.rounds, INSTANCES, tables.sets, INSTANCES, tables.values, 2 * INSTANCES));
     for (;;)
-        if (next(here, &packet, &order))
+        if (next(here, &frame, &order))
             answer_question(here, &tables);
         else
-            carry_out(here, myrthakel_learner_step(ACCEPTORS, INSTANCES, packet.bytes, packet.length, tables.rounds, INSTANCES,
-                                                   tables.sets, INSTANCES, tables.values, 2 * INSTANCES), packet.bytes);
+            carry_out(here, myrthakel_learner_frame(ACCEPTORS, INSTANCES, FRAME_PORT, frame.bytes, frame.length, tables.rounds, INSTANCES,
+                                                    tables.sets, INSTANCES, tables.values, 2 * INSTANCES), frame.bytes);
 }
 
-_Noreturn void play(int player, const place *here)
+_Noreturn void play(const place *here)
 {
-    if (player == PRIMARY)
+    if (here->player == PRIMARY)
         play_primary(here);
-    if (player == BACKUP)
+    if (here->player == BACKUP)
         play_backup(here);
-    if (player == LEARNER)
+    if (here->player == LEARNER)
         play_learner(here);
-    play_acceptor(here, (uint32_t)player);
+    play_acceptor(here);
 }

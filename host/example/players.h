@@ -2,18 +2,18 @@
 #ifndef PLAYERS_H
 #define PLAYERS_H
 
-#include "../myrthakel.h"
+#include "frames.h"
 
 /* M and N, the same in every call of the run, and the backup's own number. */
 enum { ACCEPTORS = 3, INSTANCES = 8, BACKUP_NUMBER = 1 };
 
-/* Player i below ACCEPTORS is acceptor i. */
-enum { PRIMARY = ACCEPTORS, BACKUP, LEARNER, PLAYERS };
+/* Player i below ACCEPTORS is acceptor i. Behind the players, among the boxes that frames go between, stands the client's. */
+enum { PRIMARY = ACCEPTORS, BACKUP, LEARNER, PLAYERS, CLIENT = PLAYERS };
 
-/* What a player is given: its own UDP socket, its line to the operator, and the ports that the verdicts mean. */
+/* What a player is given: its own number and UDP socket, its line to the operator, the file for frames that arrive, and the ports that lead to others. */
 typedef struct {
-    int socket, control;
-    uint16_t acceptor_ports[ACCEPTORS], leader_port, learner_port;
+    int player, socket, control, capture;
+    uint16_t ports[PLAYERS];
 } place;
 
 /* From the operator, one datagram each. Every player answers a roll call; the backup takes a start, the learner a question. */
@@ -34,20 +34,14 @@ typedef struct {
     uint32_t hole_answer, hole;
 } learned;
 
-/* To the operator, one datagram for each step or start: its answer, and the packet as it left it. Roll call and question are answered by done. */
+/* To the operator, one datagram for each step or start: its answer, and the frame as it left it. Roll call and question are answered by done. */
 typedef struct {
     uint32_t verdict;
-    uint8_t packet[MYRTHAKEL_PACKET_LENGTH];
+    uint8_t frame[MYRTHAKEL_FRAME_LENGTH];
     learned learned;
 } report;
 
 /* Plays until the operator's end of the control line is closed, and then ends the process. */
-_Noreturn void play(int player, const place *here);
-
-void send_packet(int from, uint16_t port, const uint8_t *packet);
-
-/* A big-endian number of so many bytes, read and written. */
-uint64_t get_number(const uint8_t *bytes, int width);
-void put_number(uint8_t *bytes, int width, uint64_t number);
+_Noreturn void play(const place *here);
 
 #endif
