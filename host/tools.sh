@@ -66,6 +66,7 @@ need_all() { # what the host tests need
     need_rust "${machines[@]}"
     need g++ g++
     need pkg-config pkgconf
+    need tcpdump tcpdump
 }
 
 # --- The toolchain, the library, and programs that link it
