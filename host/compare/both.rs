@@ -26,6 +26,7 @@ pub const IPV4_ZERO: &str = "IPv4 checksum 0000 taken";
 pub const IPV4_ONES: &str = "ffff for it refused";
 pub const UDP_ONES: &str = "UDP checksum ffff taken";
 pub const UDP_ZERO: &str = "0000 for it refused";
+pub const SECOND_CARRY: &str = "either checksum fffe, by a second carry, taken";
 
 pub type PacketWrite = (Fields, Vec<u8>);
 pub type PacketRead = (Vec<u8>, Fields);
@@ -294,8 +295,20 @@ fn saw_frame(comparison: &mut Comparison, answer: u32, port: u16, frame: &[u8]) 
         24 if found == right => lone_fault(&udp).into_iter().for_each(|number| comparison.saw(UDP_FAULT, number)),
         23 if right.0 == 0 && found.0 == 0xffff => comparison.saw(IPV4_ONES, 0),
         25 if right.1 == 0xffff && found.1 == 0 => comparison.saw(UDP_ZERO, 0),
-        _ if passed_frame(answer) && found.0 == 0 => comparison.saw(IPV4_ZERO, 0),
-        _ if passed_frame(answer) && found.1 == 0xffff => comparison.saw(UDP_ONES, 0),
+        _ if passed_frame(answer) => saw_sums(comparison, found.0, found.1),
+        _ => {}
+    }
+}
+
+fn saw_sums(comparison: &mut Comparison, ipv4: u16, udp: u16) {
+    match ipv4 {
+        0 => comparison.saw(IPV4_ZERO, 0),
+        0xfffe => comparison.saw(SECOND_CARRY, 0),
+        _ => {}
+    }
+    match udp {
+        0xffff => comparison.saw(UDP_ONES, 0),
+        0xfffe => comparison.saw(SECOND_CARRY, 1),
         _ => {}
     }
 }

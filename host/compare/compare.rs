@@ -47,7 +47,7 @@ const SETTINGS_KINDS: Kinds = &[(both::M, 256)];
 const ACCEPTOR_KINDS: Kinds = &[(both::M, 256), (both::PACKET_TOP_BIT, 1), (both::CELL_TOP_BIT, 1)];
 const BACKUP_KINDS: Kinds = &[(both::M, 256), (both::PHASE, 256), (both::SET, 256), (both::CELL_TOP_BIT, 1)];
 const LEARNER_KINDS: Kinds = &[(both::M, 256), (both::SET, 256), (both::CELL_TOP_BIT, 1)];
-const SUM_KINDS: Kinds = &[(both::FRAME_LENGTH, 101), (both::IPV4_ZERO, 1), (both::UDP_ONES, 1)];
+const SUM_KINDS: Kinds = &[(both::FRAME_LENGTH, 101), (both::IPV4_ZERO, 1), (both::UDP_ONES, 1), (both::SECOND_CARRY, 2)];
 const FRAME_KINDS: Kinds = &[(both::FLIPPED_BIT, 528), (both::HEADER_FAULT, 5), (both::UDP_FAULT, 2), (both::IPV4_ONES, 1), (both::UDP_ZERO, 1)];
 
 #[rustfmt::skip]

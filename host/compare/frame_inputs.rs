@@ -61,11 +61,13 @@ impl Inputs {
         header
     }
 
-    /// Now and then a sum is made ffff, of which the complement is 0, by a field that is free: it is given what the others lack.
+    /// Now and then a sum is made ffff, of which the complement is 0, by a field that is free: it is given what the others lack. With one more the sum is 1,
+    /// of which the carry has to be brought round twice.
     fn force_sums(&mut self, frame: &mut [u8]) {
+        let more = self.random.below(2) as u16;
         let mut force = |at: usize, checksum: fn(&[u8]) -> u16| {
             set_word(frame, at, 0);
-            set_word(frame, at, checksum(frame));
+            set_word(frame, at, checksum(frame).wrapping_add(more));
         };
         match self.random.below(8) {
             0 => force(IDENTIFICATION, ipv4_checksum),

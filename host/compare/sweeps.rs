@@ -127,17 +127,17 @@ fn changed(frame: &[u8], at: usize, to: u16) -> Vec<u8> {
     frame
 }
 
-/// The frame with a sum of ffff, by a free word that is given what the others lack; then with the other form of zero in the checksum.
-fn forms_of_zero(frame: &[u8], free: usize, at: usize, checksum: fn(&[u8]) -> u16) -> [Vec<u8>; 2] {
-    let without = changed(frame, free, 0);
-    let right = changed(frame, free, checksum(&without));
-    let mut wrong = right.clone();
-    set_word(&mut wrong, at, !word(&right, at));
-    [right, wrong]
+/// The frame with a sum of ffff, by a free word that is given what the others lack; then with the other form of zero in the checksum; then with a sum of 1.
+fn forced_sums(frame: &[u8], free: usize, at: usize, checksum: fn(&[u8]) -> u16) -> [Vec<u8>; 3] {
+    let lacking = checksum(&changed(frame, free, 0));
+    let zero = changed(frame, free, lacking);
+    let mut other_zero = zero.clone();
+    set_word(&mut other_zero, at, !word(&zero, at));
+    [zero, other_zero, changed(frame, free, lacking.wrapping_add(1))]
 }
 
-/// Around a packet that is taken: every length, every word of the header changed in many ways with right sums, and both forms of zero. Each bit from byte 12 on
-/// is flipped and then counted.
+/// Around a packet that is taken: every length, every word of the header changed in many ways with right sums, and sums that are forced. Each bit from byte 12
+/// on is flipped and then counted.
 fn frames(comparison: &mut Comparison, packet: &[u8], call: impl Fn(&mut Comparison, Vec<u8>)) {
     let good = frame(packet);
     for length in 0..=100 {
@@ -150,8 +150,8 @@ fn frames(comparison: &mut Comparison, packet: &[u8], call: impl Fn(&mut Compari
         let near = (0..16).map(|bit| right ^ 1 << bit).chain([0, 1, 0xff, 0xff00, 0xffff, right.wrapping_add(1), right.swap_bytes()]);
         near.for_each(|to| call(comparison, changed(&good, at, to)));
     }
-    forms_of_zero(&good, IDENTIFICATION, IPV4_CHECKSUM, ipv4_checksum).into_iter().for_each(|frame| call(comparison, frame));
-    forms_of_zero(&good, PORT_FROM, UDP_CHECKSUM, udp_checksum).into_iter().for_each(|frame| call(comparison, frame));
+    forced_sums(&good, IDENTIFICATION, IPV4_CHECKSUM, ipv4_checksum).into_iter().for_each(|frame| call(comparison, frame));
+    forced_sums(&good, PORT_FROM, UDP_CHECKSUM, udp_checksum).into_iter().for_each(|frame| call(comparison, frame));
     for bit in 0..8 * (LENGTH - ETHER_TYPE) {
         let mut frame = good.clone();
         frame[ETHER_TYPE + bit / 8] ^= 1 << (bit % 8);
@@ -177,11 +177,13 @@ pub fn frame_prepare(comparison: &mut Comparison) {
     for length in 0..=100 {
         both::frame_prepare(comparison, (prepare.clone(), addresses(0, 0), vec![0xee; length]));
     }
-    // the free halves of these are given what the sums lack
+    // the half of an address and the port that are free are given what the sums lack, and one more
     let mut framed = vec![0; LENGTH];
     let _ = crate::frames::frame_prepare(&prepare, &addresses(0, 0), &mut framed);
-    both::frame_prepare(comparison, (prepare.clone(), addresses(ipv4_checksum(&framed) as u32, 0), vec![0xee; LENGTH]));
-    both::frame_prepare(comparison, (prepare, addresses(0, udp_checksum(&framed)), vec![0xee; LENGTH]));
+    for more in 0..2 {
+        both::frame_prepare(comparison, (prepare.clone(), addresses(ipv4_checksum(&framed) as u32 + more, 0), vec![0xee; LENGTH]));
+        both::frame_prepare(comparison, (prepare.clone(), addresses(0, udp_checksum(&framed) + more as u16), vec![0xee; LENGTH]));
+    }
 }
 
 pub fn frame_check(comparison: &mut Comparison) {
