@@ -1,7 +1,9 @@
-//! The baseline: the four players with every check of the paper, in the paper's order, as one writes them in Rust for speed. No proof, no contract.
+//! The baseline: the four players, and an acceptor on frames, with every check of the paper, in the paper's order, as one writes them in Rust for speed. No
+//! proof, no contract.
 
 pub mod acceptor;
 pub mod backup;
+pub mod frames;
 pub mod learner;
 pub mod primary;
 

@@ -1,6 +1,6 @@
 //! Times each proved player against a plain one on the same packets, and holds every answer, packet and table of the one to the other's.
 //! With the words `PLAYER proved|plain COUNT` it only makes so many packets and takes those steps, for a counter of instructions, and with the word `without`
-//! behind them it leaves out the steps.
+//! behind them it leaves out the steps. `acceptor-frames` is the acceptor on frames, around the same packets.
 mod plain;
 
 #[allow(dead_code)]
@@ -27,6 +27,8 @@ const BACKUP: u32 = 1;
 const STEPS: usize = 1_000_000;
 const TURNS: usize = 15;
 const PACKET: usize = 36;
+const FRAME: usize = 78;
+const PORT: u16 = 47_036;
 
 /// One of the two that are timed: what its tables are at the start of a batch, and its step.
 struct Side<T> {
@@ -34,11 +36,11 @@ struct Side<T> {
     step: fn(&mut [u8], &mut T) -> u32,
 }
 
-/// A player, proved and plain. Packets come in batches, each to tables of its own, since tables fill up.
-struct Player<T> {
+/// A player, proved and plain, on packets or frames of one length. They come in batches, each to tables of its own, since tables fill up.
+struct Player<T, const LENGTH: usize> {
     name: &'static str,
     batch: usize,
-    packets: fn(usize, &mut Random) -> [u8; PACKET],
+    packets: fn(usize, &mut Random) -> [u8; LENGTH],
     proved: Side<T>,
     plain: Side<T>,
 }
@@ -76,6 +78,21 @@ fn order(index: usize, random: &mut Random) -> [u8; PACKET] {
     }
 }
 
+/// The same in a frame, from any box and port.
+fn framed_order(index: usize, random: &mut Random) -> [u8; FRAME] {
+    let order = order(index, random);
+    let mut frame = [0; FRAME];
+    frame[12..16].copy_from_slice(&[0x08, 0x00, 0x45, 0x00]);
+    frame[16..24].copy_from_slice(&[0, 64, 0, 0, 0x40, 0, 64, 17]);
+    frame[26..34].copy_from_slice(&random.bytes(8));
+    frame[34..36].copy_from_slice(&random.bytes(2));
+    frame[36..38].copy_from_slice(&PORT.to_be_bytes());
+    frame[38..40].copy_from_slice(&[0, 44]);
+    frame[FRAME - PACKET..].copy_from_slice(&order);
+    assert_eq!(calls::frame_seal(&mut frame), DONE);
+    frame
+}
+
 /// A promise in the round of the start or, seldom, in the one before, with a vote or without.
 fn promise(_: usize, random: &mut Random) -> [u8; PACKET] {
     let sender = random.below(ACCEPTORS as usize) as u32;
@@ -104,7 +121,7 @@ fn fresh<T>(mut tables: T, fill: fn(Settings, &mut T) -> u32) -> T {
     tables
 }
 
-fn primary() -> Player<Vec<u32>> {
+fn primary() -> Player<Vec<u32>, PACKET> {
     let ready = || fresh(vec![1], calls::primary_fresh);
     Player {
         name: "primary",
@@ -115,7 +132,7 @@ fn primary() -> Player<Vec<u32>> {
     }
 }
 
-fn acceptor() -> Player<AcceptorTables> {
+fn acceptor() -> Player<AcceptorTables, PACKET> {
     let ready = || fresh(AcceptorTables::used(CELLS), calls::acceptor_fresh);
     Player {
         name: "acceptor",
@@ -126,6 +143,22 @@ fn acceptor() -> Player<AcceptorTables> {
             ready,
             step: |packet, t| {
                 plain::acceptor::step(ACCEPTORS, INSTANCES, ACCEPTOR, packet, &mut t.rounds, &mut t.vote_rounds, &mut t.values)
+            },
+        },
+    }
+}
+
+fn acceptor_frames() -> Player<AcceptorTables, FRAME> {
+    let ready = || fresh(AcceptorTables::used(CELLS), calls::acceptor_fresh);
+    Player {
+        name: "acceptor-frames",
+        batch: 8192,
+        packets: framed_order,
+        proved: Side { ready, step: |frame, t| calls::acceptor_frame(SETTINGS, ACCEPTOR, PORT, frame, t) },
+        plain: Side {
+            ready,
+            step: |frame, t| {
+                plain::acceptor::frame(ACCEPTORS, INSTANCES, ACCEPTOR, PORT, frame, &mut t.rounds, &mut t.vote_rounds, &mut t.values)
             },
         },
     }
@@ -166,7 +199,7 @@ fn plain_start(named: Start, buffer: &mut [u8], t: &mut BackupTables) -> u32 {
     plain::backup::start(ACCEPTORS, INSTANCES, BACKUP, named.instance, named.floor, high, low, buffer, columns(t))
 }
 
-fn backup() -> Player<Started> {
+fn backup() -> Player<Started, PACKET> {
     Player {
         name: "backup",
         batch: 2048,
@@ -182,7 +215,7 @@ fn backup() -> Player<Started> {
     }
 }
 
-fn learner() -> Player<LearnerTables> {
+fn learner() -> Player<LearnerTables, PACKET> {
     let ready = || fresh(LearnerTables::used(CELLS), calls::learner_fresh);
     Player {
         name: "learner",
@@ -207,10 +240,10 @@ struct Left<T> {
 }
 
 /// One batch on tables made ready. Only the steps are timed.
-fn run<T>(side: &Side<T>, batch: &[u8]) -> (Duration, Left<T>) {
-    let mut left = Left { packets: batch.to_vec(), tables: (side.ready)(), answers: vec![0; batch.len() / PACKET] };
+fn run<T, const LENGTH: usize>(side: &Side<T>, batch: &[u8]) -> (Duration, Left<T>) {
+    let mut left = Left { packets: batch.to_vec(), tables: (side.ready)(), answers: vec![0; batch.len() / LENGTH] };
     let began = Instant::now();
-    for (packet, answer) in left.packets.chunks_exact_mut(PACKET).zip(&mut left.answers) {
+    for (packet, answer) in left.packets.chunks_exact_mut(LENGTH).zip(&mut left.answers) {
         *answer = (side.step)(packet, &mut left.tables);
     }
     (began.elapsed(), left)
@@ -226,7 +259,7 @@ fn rate(times: Vec<Vec<Duration>>) -> f64 {
     STEPS as f64 / whole.as_secs_f64() / 1e6
 }
 
-impl<T: PartialEq> Player<T> {
+impl<T: PartialEq, const LENGTH: usize> Player<T, LENGTH> {
     fn make(&self, count: usize) -> Vec<u8> {
         let mut random = Random::new(1);
         (0..count).flat_map(|index| (self.packets)(index % self.batch, &mut random)).collect()
@@ -235,14 +268,14 @@ impl<T: PartialEq> Player<T> {
     /// In each turn the two take every batch one after the other, and take turns at being the first.
     fn time(&self) {
         let all = self.make(STEPS);
-        let batches: Vec<&[u8]> = all.chunks(PACKET * self.batch).collect();
+        let batches: Vec<&[u8]> = all.chunks(LENGTH * self.batch).collect();
         let mut proved_times = vec![vec![]; batches.len()];
         let mut plain_times = proved_times.clone();
         let mut counts = BTreeMap::new();
         for turn in 0..TURNS {
             for (index, batch) in batches.iter().enumerate() {
                 let sides = if turn % 2 == 0 { [&self.proved, &self.plain] } else { [&self.plain, &self.proved] };
-                let [first, second] = sides.map(|side| run(side, batch));
+                let [first, second] = sides.map(|side| run::<T, LENGTH>(side, batch));
                 assert!(first.1 == second.1, "the proved {} and the plain one differ in batch {index}", self.name);
                 let (proved, plain) = if turn % 2 == 0 { (first.0, second.0) } else { (second.0, first.0) };
                 proved_times[index].push(proved);
@@ -254,7 +287,7 @@ impl<T: PartialEq> Player<T> {
         }
         let (proved, plain) = (rate(proved_times), rate(plain_times));
         let shares: Vec<String> = counts.iter().map(|(answer, count)| format!("{answer}: {} %", (100 * count + STEPS / 2) / STEPS)).collect();
-        println!("{:<9} {proved:>7.1} {plain:>7.1} {:>7.2}    {}", self.name, proved / plain, shares.join(", "));
+        println!("{:<15} {proved:>7.1} {plain:>7.1} {:>7.2}    {}", self.name, proved / plain, shares.join(", "));
     }
 
     fn count(&self, side: &Side<T>, count: &str, rest: &[&str]) {
@@ -265,7 +298,7 @@ impl<T: PartialEq> Player<T> {
         };
         let counted = Side { ready: side.ready, step };
         let packets = self.make(count.parse().unwrap_or_else(|_| usage()));
-        packets.chunks(PACKET * self.batch).for_each(|batch| drop(run(&counted, batch)));
+        packets.chunks(LENGTH * self.batch).for_each(|batch| drop(run::<T, LENGTH>(&counted, batch)));
     }
 
     fn obey(&self, words: &[&str]) {
@@ -279,7 +312,7 @@ impl<T: PartialEq> Player<T> {
 }
 
 fn usage() -> ! {
-    eprintln!("wanted: [primary|acceptor|backup|learner [proved|plain COUNT [without]]]");
+    eprintln!("wanted: [primary|acceptor|acceptor-frames|backup|learner [proved|plain COUNT [without]]]");
     std::process::exit(2)
 }
 
@@ -288,17 +321,19 @@ fn main() {
     let words: Vec<&str> = words.iter().map(String::as_str).collect();
     if words.len() < 2 {
         println!("million steps a second, by the medians of {TURNS} turns of {STEPS} packets");
-        println!("player     proved   plain   ratio    answers");
+        println!("player           proved   plain   ratio    answers");
     }
     match &words[..] {
         [] => {
             primary().time();
             acceptor().time();
+            acceptor_frames().time();
             backup().time();
             learner().time();
         }
         ["primary", rest @ ..] => primary().obey(rest),
         ["acceptor", rest @ ..] => acceptor().obey(rest),
+        ["acceptor-frames", rest @ ..] => acceptor_frames().obey(rest),
         ["backup", rest @ ..] => backup().obey(rest),
         ["learner", rest @ ..] => learner().obey(rest),
         _ => usage(),

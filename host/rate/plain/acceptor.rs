@@ -1,4 +1,14 @@
-use super::{owned_or_0, read, settings_allowed, vote_up_to};
+use super::{frames, owned_or_0, read, settings_allowed, vote_up_to};
+
+#[inline(always)]
+fn allowed(acceptors: u32, instances: u32, own: u32, rounds: &[u32], vote_rounds: &[u32], values: &[u64]) -> bool {
+    let count = instances as usize;
+    settings_allowed(acceptors, instances)
+        && own < acceptors
+        && rounds.len() == count
+        && vote_rounds.len() == count
+        && values.len() == 2 * count
+}
 
 #[inline(never)]
 pub fn step(
@@ -10,15 +20,40 @@ pub fn step(
     vote_rounds: &mut [u32],
     values: &mut [u64],
 ) -> u32 {
-    let count = instances as usize;
-    if !settings_allowed(acceptors, instances)
-        || own >= acceptors
-        || rounds.len() != count
-        || vote_rounds.len() != count
-        || values.len() != 2 * count
-    {
+    if !allowed(acceptors, instances, own, rounds, vote_rounds, values) {
         return 7;
     }
+    obey(instances, own, packet, rounds, vote_rounds, values)
+}
+
+/// The step on the packet of a frame. Only where it was rewritten does its checksum move, and that of the header never does.
+#[inline(never)]
+pub fn frame(
+    acceptors: u32,
+    instances: u32,
+    own: u32,
+    port: u16,
+    frame: &mut [u8],
+    rounds: &mut [u32],
+    vote_rounds: &mut [u32],
+    values: &mut [u64],
+) -> u32 {
+    if !allowed(acceptors, instances, own, rounds, vote_rounds, values) {
+        return 7;
+    }
+    let frame = match frames::check(port, frame) {
+        Ok(frame) => frame,
+        Err(number) => return number,
+    };
+    let answer = obey(instances, own, &mut frame[frames::PACKET..], rounds, vote_rounds, values);
+    if answer > 100 {
+        frames::seal(frame);
+    }
+    answer
+}
+
+#[inline(always)]
+fn obey(instances: u32, own: u32, packet: &mut [u8], rounds: &mut [u32], vote_rounds: &mut [u32], values: &mut [u64]) -> u32 {
     let f = match read(packet) {
         Ok(fields) => fields,
         Err(number) => return number,
