@@ -20,8 +20,8 @@
  * numbers: the first eight of its sixteen bytes as one big-endian number, then the last eight.
  *
  * A frame is 78 bytes, as a switch port sees them: Ethernet II in 14 (destination, source, EtherType), IPv4 without options in 20, UDP in 8, and the packet in
- * the 36 from byte 42 on. The UDP port that frames go to is a setting of the calls that take one. It is a uint16_t, unlike M and N: each such number is a
- * port, so that refusal 7 has nothing to judge, and a compiler tells of a greater one.
+ * the 36 from byte 42 on. The UDP port that frames go to is a setting as well. It is a uint16_t, unlike M and N, which C could cut to allowed ones: each
+ * number of 16 bits is a port, so that refusal 7 has nothing to judge.
  */
 #ifndef MYRTHAKEL_H
 #define MYRTHAKEL_H
@@ -55,7 +55,7 @@ enum {
     MYRTHAKEL_NO_HOLE = 108
 };
 
-/* Refusals, in the paper's numbers. Those of frames are the last five: of the header, what tells that it is UDP over IPv4, in one piece and of our length. */
+/* Refusals, in the paper's numbers; the last five are of frames. */
 enum {
     MYRTHAKEL_WRONG_LENGTH = 1,
     MYRTHAKEL_WRONG_MARK = 2,
@@ -265,15 +265,15 @@ uint32_t myrthakel_learner_read_saved(uint32_t acceptors, uint32_t instances,
                                       uint64_t *values, size_t values_length);
 
 /*
- * Frames, one call for each player: the player's step on the 36 bytes of the packet, and then both checksums set anew. All other header fields stay, so what is
- * sent is to be addressed and sealed by the host. Tables and answers are the step's, but that 1 never occurs; a frame that is refused, held or decides
- * stays byte for byte. Refusals: 7, then those of the frame, in their order, then the step's own from 2 on:
- * 21 not 78 bytes;
- * 22 EtherType not 0800 hex, first byte of IPv4 not 45 hex, total length not 64, a fragment (by its offset, or as more follow), or protocol not 17;
- * 23 the IPv4 checksum is not the one computed, ffff hex where that is 0 included;
- * 24 UDP length not 44, or another destination port;
- * 25 the UDP checksum is not the one computed, which is ffff hex where the sum gives 0: a received 0 is refused.
- * One bit flipped from byte 12 on is always refused so. The Ethernet addresses, bytes 0 to 11, are in neither checksum.
+ * Frames, one call for each player: its step on the packet, and then both checksums set anew. The other header fields stay, so that what is sent is still to be
+ * addressed, and sealed, by the host. Tables and answers are the step's; what is refused, held or decides leaves the frame byte for byte. Refusals: 7, then
+ * - 21 not 78 bytes;
+ * - 22 EtherType not 0800 hex, first byte of IPv4 not 45 hex, total length not 64, a fragment (more follow, or an offset), or protocol not 17;
+ * - 23 an IPv4 checksum other than the computed one, also ffff hex where that is 0;
+ * - 24 UDP length not 44, or another destination port;
+ * - 25 a UDP checksum other than the computed one, which is ffff hex where the complement is 0: a received 0 is refused;
+ * in that order, then the step's from 2 on: 1 never occurs. Of a frame that passes 21 to 25, any one bit flipped from byte 12 on is refused by one of them;
+ * the Ethernet addresses, bytes 0 to 11, are in neither checksum.
  */
 uint32_t myrthakel_primary_frame(uint32_t acceptors, uint32_t instances, uint16_t port,
                                  uint8_t *frame, size_t frame_length,
@@ -295,7 +295,7 @@ uint32_t myrthakel_backup_frame(uint32_t acceptors, uint32_t instances, uint32_t
                                 uint64_t *own_values, size_t own_values_length);
 
 /*
- * The learner's never writes its frame.
+ * The learner's never writes the frame.
  */
 uint32_t myrthakel_learner_frame(uint32_t acceptors, uint32_t instances, uint16_t port,
                                  const uint8_t *frame, size_t frame_length,
@@ -319,7 +319,8 @@ uint32_t myrthakel_frame_prepare(const uint8_t *packet, size_t packet_length,
 uint32_t myrthakel_frame_check(uint16_t port, const uint8_t *frame, size_t frame_length);
 
 /*
- * Sets both checksums anew, for a host that has addressed a frame that it forwards, or has written one: done. Refusals: 21, 22, 24 (of the length alone).
+ * Sets both checksums anew, for a host that has addressed a frame which it forwards, or has written one: done. Whatever the packet holds then passes, so a host
+ * owes that it seals only what a call left or the check passed: a damaged packet would be taken for a copy. Refusals: 21, 22, 24 (UDP length alone).
  */
 uint32_t myrthakel_frame_seal(uint8_t *frame, size_t frame_length);
 
