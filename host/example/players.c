@@ -29,7 +29,7 @@ static void tell_operator(const place *here, const report *what)
     (void)send(here->control, what, sizeof *what, MSG_NOSIGNAL);
 }
 
-/* A frame still has the addresses that it came with, so each copy is addressed anew and sealed. */
+/* A frame still has the addresses that it came with, so each copy is addressed anew and sealed. It is as a call left it, so none that is damaged is sealed. */
 static void forward(const place *here, int to, const uint8_t *frame)
 {
     uint8_t copy[MYRTHAKEL_FRAME_LENGTH];
