@@ -231,15 +231,9 @@ module _ (f p : List ℕ) where
   header-stays index before not24 not25 not40 not41 =
       others-stay (withPacket f p) index not24 not25 not40 not41 ∙ beside-stored f 42 p index (λ above below. omega arith)
 
-  pub length-repacked : length f ≡ frameLength → length (sealed (withPacket f p)) ≡ frameLength
-  length-repacked long = length-sealed (withPacket f p) ∙ length-sets f 42 p ∙ long
-
   pub packet-back : length f ≡ frameLength → length p ≡ packetLength → packetIn (sealed (withPacket f p)) ≡ p
   packet-back long whole =
       sealed-packet (withPacket f p) ∙ ap (bytesAt (withPacket f p) 42) (sym whole) ∙ stored-stand f 42 p (omega arith)
-
-  pub bytes-repacked : Bytes f → Bytes p → Bytes (sealed (withPacket f p))
-  bytes-repacked bytes fit = bytes-sealed (withPacket f p) (Bytes-sets f 42 p bytes fit)
 
 pub repacked-passes : (port : ℕ) (f p : List ℕ) → Passes port f → Passes port (sealed (withPacket f p))
 repacked-passes port f p e =

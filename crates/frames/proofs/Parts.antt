@@ -6,7 +6,7 @@ use mathlib.Core.List.{List, _++_, append-assoc}
 use native.Mathlib.Omega.{arith}
 use lib.ListN.{length, take, drop}
 use lib.Seq.{sets-eq, drop-drop}
-use borrow.Rule.Slice.PartMut.{midOf, putMid}
+use borrow.Rule.Slice.PartMut.{putMid}
 use Rattle.numbers.proofs.Bytes.{bytesAt-part}
 use Rattle.wire.specs.Packet.{packetLength}
 use Rattle.frames.specs.Frame.{frameLength, packetIn, withPacket}

@@ -2,11 +2,11 @@
 -- Assumes nothing.
 use Prim.Native.Nat.{ℕ, _+_, _≤_}
 use mathlib.Core.Path.{_≡_, refl, sym, ap, _∙_}
-use mathlib.Core.List.{List, [], _∷_, _++_}
+use mathlib.Core.List.{List, _++_}
 use native.Mathlib.Omega.{arith}
 use lib.ListN.{length, length-append}
 use lib.Seq.{sets, length-sets}
-use Rattle.numbers.specs.BigEndian.{toBytes, bytesAt, numberAt, withNumberAt, Bytes}
+use Rattle.numbers.specs.BigEndian.{toBytes, numberAt, withNumberAt, Bytes}
 use Rattle.numbers.proofs.Bytes.{stored-within, sets-append, toBytes-numberAt, written-out}
 use Rattle.frames.specs.Frame.{frameLength, etherType, totalLength, udpLength}
 use Rattle.frames.specs.Header.{ethernetBytes, ipv4Bytes, udpBytes}

@@ -66,7 +66,8 @@ with-packet f h p long h-long p-long =
 
 module _ (f to from : List ℕ) (ipFrom ipTo portFrom portTo : ℕ) (long : length f ≡ frameLength) (to-long : length to ≡ 6) (from-long : length from ≡ 6) where
   pub built : (p first second third q left : List ℕ) (m : Message) → packetOf m ≡ p → length p ≡ packetLength → first ≡ sets f 0 (ethernetBytes to from)
-      → second ≡ sets first 14 (ipv4Bytes 0 0 0 64 ipFrom ipTo) → third ≡ sets second 34 (udpBytes portFrom portTo) → q ≡ withMessage (take packetLength (drop 42 third)) m → left ≡ sealed (putMid 42 packetLength third q)
+      → second ≡ sets first 14 (ipv4Bytes 0 0 0 64 ipFrom ipTo) → third ≡ sets second 34 (udpBytes portFrom portTo)
+      → q ≡ withMessage (take packetLength (drop 42 third)) m → left ≡ sealed (putMid 42 packetLength third q)
       → left ≡ frameOf (addressed to from ipFrom ipTo portFrom portTo) p
   unfolding frameOf
   built p first second third q left m m-so p-long first-so second-so third-so q-so left-so =

@@ -1,4 +1,5 @@
-// A learner at a switch port: the frame is judged, and the packet within is handed to its own call. It never changes the packet, so that the checksums stay right.
+// A learner at a switch port: the frame is judged, and the packet within is handed to its own call. It never changes the packet, so that both checksums
+// stay right.
 ghost use mathlib.Core.Path.{_≡_};
 ghost use Rattle.basics.specs.Outcome.{outcome, lent};
 ghost use Rattle.quorum.specs.Settings.{settings};

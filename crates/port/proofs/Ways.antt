@@ -31,7 +31,8 @@ module _ {Tables Cell : Type 0} (player : Player Tables Cell) (port : ℕ) (f : 
     refused-frame damaged =
         ap (unchanged f t) checked-so ∙ sym (framed-refused player port f t (sym fine-so ∙ not-false fine allowed) (λ passes. damaged (checked-so ∙ passes)))
 
-    module _ (done : checked ≡ verdictNumber Done) (answer : ℕ) (left : List ℕ) (next : Tables) (stepped : outcome answer (lent left next) ≡ step player (midOf 42 packetLength f) t) where
+    module _ (done : checked ≡ verdictNumber Done) (answer : ℕ) (left : List ℕ) (next : Tables)
+        (stepped : outcome answer (lent left next) ≡ step player (midOf 42 packetLength f) t) where
       -- the part that is lent is the packet
       in-frame : inFrame f (outcome answer (lent left next)) ≡ framed player port f t
       in-frame =

@@ -3,7 +3,7 @@
 use Prim.Native.Nat.{ℕ, _<_}
 use mathlib.Core.Path.{_≡_}
 use mathlib.Core.Bool.{true, false}
-use mathlib.Core.List.{List, [], _∷_}
+use mathlib.Core.List.{List, _∷_}
 use lib.ListN.{getD}
 use Rattle.numbers.specs.BigEndian.{Bytes}
 use Rattle.basics.specs.Outcome.{Outcome, outcome, Lent, lent}

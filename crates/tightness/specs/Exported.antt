@@ -20,21 +20,32 @@ use Rattle.quorum.specs.Settings.{settings}
 use Rattle.packets.specs.Packets.{numbered, packetWrite, packetRead}
 use Rattle.packets.proofs.myrthakel_packet_write.Reads as packet-write
 use Rattle.packets.proofs.myrthakel_packet_read.Reads as packet-read
+use Rattle.frames.specs.Frame.{frameCheck, frameSeal}
+use Rattle.frames.proofs.myrthakel_frame_check.Reads as frame-check
+use Rattle.frames.proofs.myrthakel_frame_seal.Reads as frame-seal
+use Rattle.framing.specs.Framing.{addressed, framePrepare}
+use Rattle.framing.proofs.myrthakel_frame_prepare.Reads as frame-prepare
 use Rattle.primary.specs.Primary.{primaryFresh, primaryStep}
 use Rattle.primary.proofs.myrthakel_primary_fresh.Reads as primary-fresh
 use Rattle.primary.proofs.myrthakel_primary_step.Reads as primary-step
 use Rattle.primary.proofs.myrthakel_primary_request as primary-request
+use Rattle.primary_port.specs.Port.{primaryFrame}
+use Rattle.primary_port.proofs.myrthakel_primary_frame.Reads as primary-frame
 use Rattle.acceptor_tables.specs.Tables as acceptors
 use Rattle.acceptor_tables.specs.Tables.{acceptorFresh}
 use Rattle.acceptor_tables.proofs.myrthakel_acceptor_fresh.Reads as acceptor-fresh
 use Rattle.acceptor.specs.Acceptor.{acceptorStep}
 use Rattle.acceptor.proofs.myrthakel_acceptor_step.Reads as acceptor-step
+use Rattle.acceptor_port.specs.Port.{acceptorFrame}
+use Rattle.acceptor_port.proofs.myrthakel_acceptor_frame.Reads as acceptor-frame
 use Rattle.backup_tables.specs.Tables as backups
 use Rattle.backup_tables.specs.Tables.{backupFresh}
 use Rattle.backup_tables.proofs.myrthakel_backup_fresh.Reads as backup-fresh
 use Rattle.backup.specs.Backup.{backupStart, backupStep}
 use Rattle.backup.proofs.myrthakel_backup_start.Reads as backup-start
 use Rattle.backup.proofs.myrthakel_backup_step.Reads as backup-step
+use Rattle.backup_port.specs.Port.{backupFrame}
+use Rattle.backup_port.proofs.myrthakel_backup_frame.Reads as backup-frame
 use Rattle.learner_tables.specs.Tables as learners
 use Rattle.learner_tables.specs.Tables.{learnerFresh}
 use Rattle.learner_tables.proofs.myrthakel_learner_fresh.Reads as learner-fresh
@@ -42,6 +53,8 @@ use Rattle.learner.specs.Learner as learner
 use Rattle.learner.specs.Learner.{learnerStep, answerFor}
 use Rattle.learner.proofs.myrthakel_learner_step.Reads as learner-step
 use Rattle.learner.proofs.myrthakel_learner_answer.Reads as learner-answer
+use Rattle.learner_port.specs.Port.{learnerFrame}
+use Rattle.learner_port.proofs.myrthakel_learner_frame.Reads as learner-frame
 use Rattle.learner_delivery.specs.Delivery.{deliver}
 use Rattle.learner_delivery.proofs.myrthakel_learner_deliver.Reads as learner-deliver
 use Rattle.learner_holes.specs.Holes as holes
@@ -69,6 +82,13 @@ pub record ExportedCalls : Type 2 where
       answer (_, (kind′, (switch′, (instance′, (round′, (voteRound′, (high′, (low′, _)))))))).
       outcome answer (numbered (now kind′) (now switch′) (now instance′) (now round′) (now voteRound′) (now high′) (now low′))
       ≡ packetRead (now packet) (numbered (now kind) (now switch) (now instance) (now round) (now voteRound) (now high) (now low))
+  -- Nor has it calls that check, seal or frame: what is promised of them stands in frames and framing.
+  pub of-frame-check : Does frame-check.Learnt λ _ (port, (frame, _)) answer _. answer ≡ frameCheck port (now frame)
+  pub of-frame-seal : Does frame-seal.Learnt λ _ (frame, _) answer (frame′, _). outcome answer (now frame′) ≡ frameSeal (now frame)
+  pub of-frame-prepare : Does frame-prepare.Learnt
+      λ _ (packet, (to, (from, (ipFrom, (ipTo, (portFrom, (portTo, (frame, _)))))))) answer (_, (_, (_, (_, (_, (_, (_, (frame′, _)))))))).
+      outcome answer (now frame′)
+      ≡ framePrepare (addressed (now to) (now from) ipFrom ipTo portFrom portTo) (now packet) (now frame)
   -- With these four a run begins (`RunBegins` of agreement).
   pub of-primary-fresh : Does primary-fresh.Learnt λ _ (M, (N, (next, _))) answer (_, (_, (next′, _))).
       outcome answer (now next′)
@@ -91,10 +111,18 @@ pub record ExportedCalls : Type 2 where
   pub of-primary-request : {M : Type 1} (𝓤 : URA M) (H : Heap 𝓤) (A : Atoms 𝓤) (mem : Memory → SProp 𝓤) (run : Routine → Fun 𝓤)
       (κs : Lfts 2) (entry : Args primary-request.signature κs) (answer : Res primary-request.signature κs) (exit : AtExit primary-request.ended κs)
       → primary-request.clauses 𝓤 H A mem run κs entry .ensures tt answer exit ≡ fact 𝓤 (requested κs entry answer exit)
+  -- Runs over frames (frame_agreement) speak of the calls on frames.
+  pub of-primary-frame : Does primary-frame.Learnt λ _ (M, (N, (port, (frame, (next, _))))) answer (_, (_, (_, (frame′, (next′, _))))).
+      outcome answer (lent (now frame′) (now next′))
+      ≡ primaryFrame (settings M N) port (now frame) (now next)
   pub of-acceptor-step : Does acceptor-step.Learnt
       λ _ (M, (N, (own, (packet, (rounds, (voteRounds, (values, _))))))) answer (_, (_, (_, (packet′, (rounds′, (voteRounds′, (values′, _))))))).
       outcome answer (lent (now packet′) (acceptors.tables (now rounds′) (now voteRounds′) (now values′)))
       ≡ acceptorStep (settings M N) own (now packet) (acceptors.tables (now rounds) (now voteRounds) (now values))
+  pub of-acceptor-frame : Does acceptor-frame.Learnt
+      λ _ (M, (N, (own, (port, (frame, (rounds, (voteRounds, (values, _)))))))) answer (_, (_, (_, (_, (frame′, (rounds′, (voteRounds′, (values′, _)))))))).
+      outcome answer (lent (now frame′) (acceptors.tables (now rounds′) (now voteRounds′) (now values′)))
+      ≡ acceptorFrame (settings M N) own port (now frame) (acceptors.tables (now rounds) (now voteRounds) (now values))
   pub of-backup-start : Does backup-start.Learnt
       λ _ (M, (N, (own, (instance, (floor, (high, (low, (buffer, (rounds, (phases, (sets, (bestVoteRounds, (bestValues, (ownValues, _))))))))))))))
       answer (_, (_, (_, (_, (_, (_, (_, (buffer′, (rounds′, (phases′, (sets′, (bestVoteRounds′, (bestValues′, (ownValues′, _)))))))))))))).
@@ -106,10 +134,20 @@ pub record ExportedCalls : Type 2 where
       answer (_, (_, (_, (packet′, (rounds′, (phases′, (sets′, (bestVoteRounds′, (bestValues′, (ownValues′, _)))))))))).
       outcome answer (lent (now packet′) (backups.tables (now rounds′) (now phases′) (now sets′) (now bestVoteRounds′) (now bestValues′) (now ownValues′)))
       ≡ backupStep (settings M N) own (now packet) (backups.tables (now rounds) (now phases) (now sets) (now bestVoteRounds) (now bestValues) (now ownValues))
+  pub of-backup-frame : Does backup-frame.Learnt
+      λ _ (M, (N, (own, (port, (frame, (rounds, (phases, (sets, (bestVoteRounds, (bestValues, (ownValues, _)))))))))))
+      answer (_, (_, (_, (_, (frame′, (rounds′, (phases′, (sets′, (bestVoteRounds′, (bestValues′, (ownValues′, _))))))))))).
+      outcome answer (lent (now frame′) (backups.tables (now rounds′) (now phases′) (now sets′) (now bestVoteRounds′) (now bestValues′) (now ownValues′)))
+      ≡ backupFrame (settings M N) own port (now frame)
+      (backups.tables (now rounds) (now phases) (now sets) (now bestVoteRounds) (now bestValues) (now ownValues))
   pub of-learner-step : Does learner-step.Learnt
       λ _ (M, (N, (packet, (rounds, (sets, (values, _)))))) answer (_, (_, (_, (rounds′, (sets′, (values′, _)))))).
       outcome answer (lent (now packet) (learners.tables (now rounds′) (now sets′) (now values′)))
       ≡ learnerStep (settings M N) (now packet) (learners.tables (now rounds) (now sets) (now values))
+  pub of-learner-frame : Does learner-frame.Learnt
+      λ _ (M, (N, (port, (frame, (rounds, (sets, (values, _))))))) answer (_, (_, (_, (_, (rounds′, (sets′, (values′, _))))))).
+      outcome answer (lent (now frame) (learners.tables (now rounds′) (now sets′) (now values′)))
+      ≡ learnerFrame (settings M N) port (now frame) (learners.tables (now rounds) (now sets) (now values))
   pub of-learner-answer : Does learner-answer.Learnt
       λ _ (M, (N, (instance, (rounds, (sets, (values, (high, (low, _)))))))) answer (_, (_, (_, (_, (_, (_, (high′, (low′, _)))))))).
       outcome answer (theValue (now high′) (now low′))

@@ -37,6 +37,12 @@ use Rattle.wire.proofs.write_fields.Reads as write-fields
 use Rattle.wire.proofs.write_packet.Reads as write-packet
 use Rattle.packets.proofs.myrthakel_packet_write.Reads as packet-write
 use Rattle.packets.proofs.myrthakel_packet_read.Reads as packet-read
+use Rattle.checksum.proofs.sum_onto.Reads as sum-onto
+use Rattle.checksum.proofs.complement.Reads as complement
+use Rattle.frames.proofs.myrthakel_frame_check.Reads as frame-check
+use Rattle.frames.proofs.set_checksums.Reads as set-checksums
+use Rattle.frames.proofs.myrthakel_frame_seal.Reads as frame-seal
+use Rattle.framing.proofs.myrthakel_frame_prepare.Reads as frame-prepare
 use Rattle.quorum.proofs.settings_allowed.Reads as settings-allowed
 use Rattle.quorum.proofs.majority.Reads as majority
 use Rattle.quorum.proofs.has_member.Reads as has-member
@@ -61,6 +67,7 @@ use Rattle.primary.proofs.is_allowed.Reads as primary-is-allowed
 use Rattle.primary.proofs.myrthakel_primary_fresh.Reads as primary-fresh
 use Rattle.primary.proofs.myrthakel_primary_step.Reads as primary-step
 use Rattle.primary.proofs.myrthakel_primary_request as primary-request
+use Rattle.primary_port.proofs.myrthakel_primary_frame.Reads as primary-frame
 use Rattle.acceptor_rule.proofs.fresh_cell.Reads as acceptor-fresh-cell
 use Rattle.acceptor_rule.proofs.is_possible.Reads as acceptor-is-possible
 use Rattle.acceptor_rule.proofs.order_of.Reads as order-of
@@ -68,6 +75,7 @@ use Rattle.acceptor_rule.proofs.obey.Reads as obey
 use Rattle.acceptor_tables.proofs.is_allowed.Reads as acceptor-is-allowed
 use Rattle.acceptor_tables.proofs.myrthakel_acceptor_fresh.Reads as acceptor-fresh
 use Rattle.acceptor.proofs.myrthakel_acceptor_step.Reads as acceptor-step
+use Rattle.acceptor_port.proofs.myrthakel_acceptor_frame.Reads as acceptor-frame
 use Rattle.backup_cell.proofs.fresh_cell.Reads as backup-fresh-cell
 use Rattle.backup_cell.proofs.is_possible.Reads as backup-is-possible
 use Rattle.backup_rule.proofs.start.Reads as start
@@ -78,6 +86,7 @@ use Rattle.backup_tables.proofs.store_cell.Reads as backup-store-cell
 use Rattle.backup_tables.proofs.myrthakel_backup_fresh.Reads as backup-fresh
 use Rattle.backup.proofs.myrthakel_backup_start.Reads as backup-start
 use Rattle.backup.proofs.myrthakel_backup_step.Reads as backup-step
+use Rattle.backup_port.proofs.myrthakel_backup_frame.Reads as backup-frame
 use Rattle.learner_cell.proofs.fresh_cell.Reads as learner-fresh-cell
 use Rattle.learner_cell.proofs.is_decided.Reads as is-decided
 use Rattle.learner_cell.proofs.value_of.Reads as value-of
@@ -92,6 +101,7 @@ use Rattle.learner_tables.proofs.myrthakel_learner_fresh.Reads as learner-fresh
 use Rattle.learner.proofs.myrthakel_learner_step.Reads as learner-step
 use Rattle.learner.proofs.answer_for.Reads as answer-for
 use Rattle.learner.proofs.myrthakel_learner_answer.Reads as learner-answer
+use Rattle.learner_port.proofs.myrthakel_learner_frame.Reads as learner-frame
 use Rattle.learner_delivery.proofs.myrthakel_learner_deliver.Reads as learner-deliver
 use Rattle.learner_holes.proofs.find_hole.Reads as find-hole
 use Rattle.learner_holes.proofs.myrthakel_learner_first_hole.Reads as learner-first-hole
@@ -180,6 +190,15 @@ pub record EveryCall : Type 0 where
   -- packets
   pub of-packet-write : OneAnswer packet-write.Learnt × OneContent packet-write.Learnt (λ κs exit. held-1 (exit .1 .1 .1 .1 .1 .1 .1))
   pub of-packet-read : OneAnswer packet-read.Learnt × OneContent packet-read.Learnt (λ κs exit. held-7 (exit .1))
+  -- checksum
+  pub of-sum-onto : OneAnswer sum-onto.Learnt
+  pub of-complement : OneAnswer complement.Learnt
+  -- frames
+  pub of-frame-check : OneAnswer frame-check.Learnt
+  pub of-set-checksums : OneContent set-checksums.Learnt (λ κs exit. held-1 exit)
+  pub of-frame-seal : OneAnswer frame-seal.Learnt × OneContent frame-seal.Learnt (λ κs exit. held-1 exit)
+  -- framing
+  pub of-frame-prepare : OneAnswer frame-prepare.Learnt × OneContent frame-prepare.Learnt (λ κs exit. held-1 (exit .1 .1 .1 .1 .1 .1 .1))
   -- quorum
   pub of-settings-allowed : OneAnswer settings-allowed.Learnt
   pub of-majority : OneAnswer majority.Learnt
@@ -208,6 +227,8 @@ pub record EveryCall : Type 0 where
   pub of-primary-fresh : OneAnswer primary-fresh.Learnt × OneContent primary-fresh.Learnt (λ κs exit. held-1 (exit .1 .1))
   pub of-primary-step : OneAnswer primary-step.Learnt × OneContent primary-step.Learnt (λ κs exit. held-2 (exit .1 .1))
   pub of-primary-request : OneAnswer requested × OneContent requested (λ κs exit. held-2 (exit .1 .1))
+  -- primary_port
+  pub of-primary-frame : OneAnswer primary-frame.Learnt × OneContent primary-frame.Learnt (λ κs exit. held-2 (exit .1 .1 .1))
   -- acceptor_rule
   pub of-acceptor-fresh-cell : OneAnswer acceptor-fresh-cell.Learnt
   pub of-acceptor-is-possible : OneAnswer acceptor-is-possible.Learnt
@@ -218,6 +239,8 @@ pub record EveryCall : Type 0 where
   pub of-acceptor-fresh : OneAnswer acceptor-fresh.Learnt × OneContent acceptor-fresh.Learnt (λ κs exit. held-3 (exit .1 .1))
   -- acceptor
   pub of-acceptor-step : OneAnswer acceptor-step.Learnt × OneContent acceptor-step.Learnt (λ κs exit. held-4 (exit .1 .1 .1))
+  -- acceptor_port
+  pub of-acceptor-frame : OneAnswer acceptor-frame.Learnt × OneContent acceptor-frame.Learnt (λ κs exit. held-4 (exit .1 .1 .1 .1))
   -- backup_cell
   pub of-backup-fresh-cell : OneAnswer backup-fresh-cell.Learnt
   pub of-backup-is-possible : OneAnswer backup-is-possible.Learnt
@@ -232,6 +255,8 @@ pub record EveryCall : Type 0 where
   -- backup
   pub of-backup-start : OneAnswer backup-start.Learnt × OneContent backup-start.Learnt (λ κs exit. held-7 (exit .1 .1 .1 .1 .1 .1 .1))
   pub of-backup-step : OneAnswer backup-step.Learnt × OneContent backup-step.Learnt (λ κs exit. held-7 (exit .1 .1 .1))
+  -- backup_port
+  pub of-backup-frame : OneAnswer backup-frame.Learnt × OneContent backup-frame.Learnt (λ κs exit. held-7 (exit .1 .1 .1 .1))
   -- learner_cell
   pub of-learner-fresh-cell : OneAnswer learner-fresh-cell.Learnt
   pub of-is-decided : OneAnswer is-decided.Learnt
@@ -250,6 +275,8 @@ pub record EveryCall : Type 0 where
   pub of-learner-step : OneAnswer learner-step.Learnt × OneContent learner-step.Learnt (λ κs exit. held-3 (exit .1 .1 .1))
   pub of-answer-for : OneAnswer answer-for.Learnt
   pub of-learner-answer : OneAnswer learner-answer.Learnt × OneContent learner-answer.Learnt (λ κs exit. held-2 (exit .1 .1 .1 .1 .1 .1))
+  -- learner_port
+  pub of-learner-frame : OneAnswer learner-frame.Learnt × OneContent learner-frame.Learnt (λ κs exit. held-3 (exit .1 .1 .1 .1))
   -- learner_delivery
   pub of-learner-deliver : OneAnswer learner-deliver.Learnt × OneContent learner-deliver.Learnt (λ κs exit. held-2 (exit .1 .1 .1 .1 .1))
   -- learner_holes

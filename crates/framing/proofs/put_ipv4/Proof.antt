@@ -55,7 +55,15 @@ returns c =
     let total = free .before .before .before .before in
     let first = total .before .before .before .before in
     let start = first .before .before .before in
-    rw (to .write-u323 .ensures, from .write-u322 .ensures, sum .write-u164 .ensures, life .write-u163 .ensures, free .write-u32 .ensures, total .write-u162 .ensures, first .write-u16 .ensures)
+    rw (
+      to .write-u323 .ensures,
+      from .write-u322 .ensures,
+      sum .write-u164 .ensures,
+      life .write-u163 .ensures,
+      free .write-u32 .ensures,
+      total .write-u162 .ensures,
+      first .write-u16 .ensures,
+    )
     (ipv4-stored (now (start .args .frame)) (start .pre) (start .args .from) (start .args .to))
 
 pub put-ipv4-spec : {M : Type 1} → statement M
