@@ -14,7 +14,7 @@ use Rattle.checksum.specs.Promises.{plainSum, residue, SumIsResidue, Par
 
 -- ---- residues
 
-residue-of : (n : ℕ) → 0 < n → residue n ≡ (n - 1) % 65535 + 1
+pub residue-of : (n : ℕ) → 0 < n → residue n ≡ (n - 1) % 65535 + 1
 unfolding residue
 residue-of zero some = absurd (omega arith)
 residue-of (suc n) some = ap (λ m. m % 65535 + 1) (omega arith)
@@ -32,6 +32,19 @@ pub residue-at-most : (n : ℕ) → residue n ≤ 65535
 unfolding residue
 residue-at-most zero = omega arith
 residue-at-most (suc n) = omega arith
+
+-- what differs by a multiple of 65,535 has one residue, unless it is 0
+pub same-residue : (m n : ℕ) → m % 65535 ≡ n % 65535 → (m ≡ 0 → n ≡ 0) → (n ≡ 0 → m ≡ 0) → residue m ≡ residue n
+unfolding residue
+same-residue zero zero same forth back = refl
+same-residue zero (suc n) same forth back = absurd (omega (arith, forth refl))
+same-residue (suc m) zero same forth back = absurd (omega (arith, back refl))
+same-residue (suc m) (suc n) same forth back = omega arith
+
+pub residue-beside : (m n : ℕ) → residue (residue m + n) ≡ residue (m + n)
+unfolding residue
+residue-beside zero n = refl
+residue-beside (suc m) n = same-residue (m % 65535 + 1 + n) (suc m + n) (omega arith) (λ none. absurd (omega arith)) (λ none. absurd (omega arith))
 
 -- bringing the carry of two words round keeps the residue, whatever is summed beside
 carried-residue : (sum rest : ℕ) → sum < 131071 → residue (carryRound sum + rest) ≡ residue (sum + rest)

@@ -13,8 +13,13 @@ pub record Summed (carried : ℕ) (part : List ℕ) (sum at : ℕ) : Type 0 wher
   pub inside : at ≤ length part
   pub same : sumOnto sum (drop at part) ≡ sumOnto carried part
 
-next-but-one : (at : ℕ) → suc (at + 1) ≡ at + 2
-next-but-one at = omega arith
+-- two bytes further on
+pub two-next : (part : List ℕ) (at : ℕ) → 2 ≤ length part - at → drop at part ≡ getD part at 0 ∷ getD part (at + 1) 0 ∷ drop (at + 2) part
+two-next part at two =
+    let further : suc (at + 1) ≡ at + 2 = omega arith in
+    drop-cons part at 0 (omega arith)
+    ∙ ap (λ l. getD part at 0 ∷ l) (ap (λ n. drop n part) (sym (add-one at)) ∙ drop-cons part (at + 1) 0 (omega arith))
+    ∙ ap (λ n. getD part at 0 ∷ getD part (at + 1) 0 ∷ drop n part) further
 
 pub begins : (carried : ℕ) (part : List ℕ) → Summed carried part carried 0
 begins carried part = record { inside = omega arith; same = refl }
@@ -24,11 +29,7 @@ module _ {carried : ℕ} {part : List ℕ} {sum at : ℕ} (so-far : Summed carri
   unfolding sumOnto
   word-next next two next-so =
       let within = so-far .inside in
-      let rest : drop at part ≡ getD part at 0 ∷ getD part (at + 1) 0 ∷ drop (at + 2) part =
-      drop-cons part at 0 (omega arith)
-      ∙ ap (λ l. getD part at 0 ∷ l) (ap (λ n. drop n part) (sym (add-one at)) ∙ drop-cons part (at + 1) 0 (omega arith))
-      ∙ ap (λ n. getD part at 0 ∷ getD part (at + 1) 0 ∷ drop n part) (next-but-one at) in
-      record { inside = omega arith; same = rw next-so (ap (sumOnto sum) (sym rest) ∙ so-far .same) }
+      record { inside = omega arith; same = rw next-so (ap (sumOnto sum) (sym (two-next part at two)) ∙ so-far .same) }
 
   pub odd-ends : (whole : ℕ) → at < length part → length part - at < 2 → whole ≡ carryRound (sum + (getD part at 0 * 256 + 0)) → whole ≡ sumOnto carried part
   unfolding sumOnto
