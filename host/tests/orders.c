@@ -35,6 +35,7 @@ static buffer packet(uint32_t kind, uint32_t switch_number, uint32_t instance, u
 }
 
 static buffer request(void) { return packet(MYRTHAKEL_REQUEST, 9, 0, 0, MYRTHAKEL_NONE, 0x2a); }
+static buffer prepare(void) { return packet(MYRTHAKEL_PREPARE, 1, 0, 1, MYRTHAKEL_NONE, 0); }
 static buffer promise(uint32_t sender, uint32_t instance, uint32_t round) { return packet(MYRTHAKEL_PROMISE, sender, instance, round, MYRTHAKEL_NONE, 0); }
 static buffer propose(uint32_t instance, uint32_t round) { return packet(MYRTHAKEL_PROPOSE, round % 4, instance, round, MYRTHAKEL_NONE, 0); }
 static buffer vote(uint32_t sender, uint32_t instance, uint32_t round, uint64_t low) { return packet(MYRTHAKEL_VOTE, sender, instance, round, round, low); }
@@ -413,6 +414,120 @@ static void reading_into_order(void)
     row("5: round 4, which is nobody's", reading_into(set(request(), 15, 4)), 5);
 }
 
+/* Frames from 192.0.2.1:40001 to 192.0.2.10:47036, both checksums right whatever the packet says. */
+
+enum { PORT = 47036, PACKET = 42 };
+
+static buffer frame_with(buffer p)
+{
+    buffer f = {{0x02, 0x00, 0x00, 0x00, 0x00, 0x0a, 0x02, 0x00, 0x00, 0x00, 0x00, 0x01, 0x08, 0x00, 0x45, 0x00, 0x00, 0x40, 0x00, 0x00, 0x00, 0x00, 0x40, 0x11,
+                 0x00, 0x00, 0xc0, 0x00, 0x02, 0x01, 0xc0, 0x00, 0x02, 0x0a, 0x9c, 0x41, 0xb7, 0xbc, 0x00, 0x2c, 0x00, 0x00}, MYRTHAKEL_FRAME_LENGTH};
+    memcpy(f.bytes + PACKET, p.bytes, MYRTHAKEL_PACKET_LENGTH);
+    expect(myrthakel_frame_seal(f.bytes, f.length) == MYRTHAKEL_DONE, "a frame of the test's is sealed");
+    return f;
+}
+
+/* All that judge a frame do it alike. A byte that is changed alone leaves the checksum over it wrong. */
+static void judging(step *give, buffer f)
+{
+    row("21 before 22: 79 bytes, the EtherType from the second on", give(3, shifted(f)), 21);
+    row("22 before 23: total length 65, and so another IPv4 checksum", give(3, set(f, 17, 65)), 22);
+    row("23 before 24: another IPv4 checksum, another port", give(3, set(set(f, 25, 0), 37, 0)), 23);
+    row("24 before 25: another port, and so another UDP checksum", give(3, set(f, 37, 0)), 24);
+    row("24 before 25: UDP length 45, and so another UDP checksum", give(3, set(f, 39, 45)), 24);
+    row("25 before 2: another mark, and so another UDP checksum", give(3, set(f, 42, 0)), 25);
+}
+
+/* The check has no settings, and is given its frame read-only. */
+static uint32_t checking(uint32_t acceptors, buffer f)
+{
+    (void)acceptors;
+    return myrthakel_frame_check(PORT, f.bytes, f.length);
+}
+
+static uint32_t sealing(buffer f)
+{
+    buffer lent = f;
+    uint32_t answered = myrthakel_frame_seal(lent.bytes, lent.length);
+    return unless_changed(answered, f.bytes, lent.bytes, sizeof f.bytes);
+}
+
+static void sealing_order(void)
+{
+    row("21 before 22: 79 bytes, the EtherType from the second on", sealing(shifted(frame_with(request()))), 21);
+    row("22 before 24: another EtherType, UDP length 45", sealing(set(set(frame_with(request()), 13, 1), 39, 45)), 22);
+    row("24: UDP length 45", sealing(set(frame_with(request()), 39, 45)), 24);
+}
+
+/* Framing into 77 bytes, which is a fault of every row. */
+static uint32_t framing(buffer p)
+{
+    static const uint8_t address[6];
+    buffer before = zeros(77), lent = zeros(77);
+    uint32_t answered = myrthakel_frame_prepare(p.bytes, p.length, address, address, 0, 0, 0, 0, lent.bytes, lent.length);
+    return unless_changed(answered, before.bytes, lent.bytes, sizeof before.bytes);
+}
+
+static void framing_order(void)
+{
+    row("1 before 2: 37 bytes, the mark from the second on", framing(shifted(prepare())), 1);
+    row("2 before 3: another mark, version 2", framing(set(set(prepare(), 0, 0), 5, 2)), 2);
+    row("3 before 4: version 2, type 5", framing(set(set(prepare(), 5, 2), 3, 5)), 3);
+    row("4 before 5: type 5, round 4, which is nobody's", framing(set(set(prepare(), 3, 5), 15, 4)), 4);
+    row("5 before 6: another kind, in round 4", framing(set(request(), 15, 4)), 5);
+    row("6 before 21: another kind", framing(request()), 6);
+    row("21: 77 bytes", framing(prepare()), 21);
+}
+
+/* The players' calls on frames. */
+
+static void on_frames(step *give, buffer p)
+{
+    row("7 before 21: M is 4, 79 bytes", give(4, shifted(frame_with(p))), 7);
+    judging(give, frame_with(p));
+    row("2 before 3: another mark, version 2", give(3, frame_with(set(set(p, 0, 0), 5, 2))), 2);
+}
+
+static uint32_t to_primary(uint32_t acceptors, buffer f)
+{
+    buffer lent = f;
+    uint32_t next = 0, answered = myrthakel_primary_frame(acceptors, N, PORT, lent.bytes, lent.length, &next, 1);
+    return next == 0 ? unless_changed(answered, f.bytes, lent.bytes, sizeof f.bytes) : 0;
+}
+
+static uint32_t to_acceptor(uint32_t acceptors, buffer f)
+{
+    struct {
+        buffer frame;
+        uint32_t rounds[N], vote_rounds[N];
+        uint64_t values[2 * N];
+    } before, lent;
+    memset(&before, 0, sizeof before);
+    before.frame = f;
+    memcpy(&lent, &before, sizeof lent);
+    uint32_t answered = myrthakel_acceptor_frame(acceptors, N, 0, PORT, lent.frame.bytes, f.length, lent.rounds, N, lent.vote_rounds, N, lent.values, 2 * N);
+    return unless_changed(answered, &before, &lent, sizeof lent);
+}
+
+static uint32_t to_backup(uint32_t acceptors, buffer f)
+{
+    lent_to_backup before, b;
+    lend_to_backup(&before, f, 1, 0);
+    memcpy(&b, &before, sizeof b);
+    uint32_t answered = myrthakel_backup_frame(acceptors, N, 1, PORT, b.packet.bytes, f.length, b.rounds, N, b.phases, N, b.sets, N,
+                                               b.best_vote_rounds, N, b.best_values, 2 * N, b.own_values, 2 * N);
+    return unless_changed(answered, &before, &b, sizeof b);
+}
+
+static uint32_t to_learner(uint32_t acceptors, buffer f)
+{
+    lent_to_learner before, l;
+    lend_to_learner(&before, f, 1);
+    memcpy(&l, &before, sizeof l);
+    uint32_t answered = myrthakel_learner_frame(acceptors, N, PORT, l.bytes.bytes, f.length, l.rounds, N, l.sets, N, l.values, 2 * N);
+    return unless_changed(answered, &before, &l, sizeof l);
+}
+
 int main(void)
 {
     call = "primary by a slice";
@@ -437,5 +552,19 @@ int main(void)
     writing_order();
     call = "reading a packet";
     reading_into_order();
+    call = "checking a frame";
+    judging(checking, frame_with(request()));
+    call = "sealing a frame";
+    sealing_order();
+    call = "framing a prepare";
+    framing_order();
+    call = "primary on frames";
+    on_frames(to_primary, request());
+    call = "acceptor on frames";
+    on_frames(to_acceptor, propose(0, 0));
+    call = "backup on frames";
+    on_frames(to_backup, promise(0, 0, 1));
+    call = "learner on frames";
+    on_frames(to_learner, vote(1, 0, 5, 0));
     return told();
 }

@@ -1,8 +1,9 @@
--- The starred cases, the orders of refusal and the calls that are written out hold: each is computed from the definitions, all with one list of them.
+-- The starred cases, those of frames, the orders of refusal and the calls that are written out hold: each is computed from the definitions, all with one
+-- list of them.
 -- Assumes nothing.
 use mathlib.Core.Path.{refl}
 use lib.Count.{ones}
-use Rattle.numbers.specs.BigEndian.{numberAt}
+use Rattle.numbers.specs.BigEndian.{numberAt, withNumberAt}
 use Rattle.basics.specs.Ladder.{if_then_else_, need_or_then_}
 use Rattle.basics.specs.Rounds.{ownerOf, ownedOr0, ownedNot0, rank, atMost}
 use Rattle.basics.specs.Votes.{isVoteUpTo}
@@ -12,33 +13,43 @@ use Rattle.messages.specs.Message.{messageOf, fieldsOf, whenRequest, whenPrepar
 use Rattle.wire.specs.Packet.{fieldsIn, readPacket, packetWith, packetOf}
 use Rattle.player.specs.Step.{afterReading, afterPlacing, ruled, ruleAt, act, step}
 use Rattle.packets.specs.Packets.{packetWrite, fieldsRead, packetRead}
+use Rattle.checksum.specs.Sum.{sumOnto}
+use Rattle.frames.specs.Frame.{ipv4Checksum, sentAs, udpChecksum, carriesUdp, frameCheck, sealed, frameSeal}
+use Rattle.frames.specs.Header.{frameOf}
+use Rattle.framing.specs.Framing.{prepareFramed, framePrepare}
+use Rattle.port.specs.Framed.{framed}
 use Rattle.quorum.specs.Settings.{acceptorsAllowed, instancesAllowed, allowed}
 use Rattle.quorum.specs.Quorum.{majority, bit, hasMember, withMember, within, reaches}
 use Rattle.columns.specs.Fresh.{setFresh}
 use Rattle.columns.specs.Walks.{cellsFrom, every}
 use Rattle.primary_rule.specs.Rule as primaryRule
 use Rattle.primary.specs.Primary as primary
+use Rattle.primary_port.specs.Port.{primaryFrame}
 use Rattle.acceptor_rule.specs.Rule as acceptorRule
 use Rattle.acceptor_tables.specs.Tables as acceptorTables
 use Rattle.acceptor.specs.Acceptor as acceptor
+use Rattle.acceptor_port.specs.Port.{acceptorFrame}
 use Rattle.backup_cell.specs.Cell as backupCell
 use Rattle.backup_rule.specs.Rule as backupRule
 use Rattle.backup_tables.specs.Tables as backupTables
 use Rattle.backup.specs.Backup as backup
+use Rattle.backup_port.specs.Port.{backupFrame}
 use Rattle.learner_cell.specs.Cell as learnerCell
 use Rattle.learner_rule.specs.Rule as learnerRule
 use Rattle.learner_tables.specs.Tables as learnerTables
 use Rattle.learner.specs.Learner as learner
+use Rattle.learner_port.specs.Port.{learnerFrame}
 use Rattle.learner_delivery.specs.Delivery.{deliver}
 use Rattle.learner_holes.specs.Holes as holes
 use Rattle.learner_file.specs.File.{header, marked, sameSettings, cellBytes, cellIn, cellsBytes, roundsOf, setsOf, valuesOf}
 use Rattle.learner_saved.specs.Saved.{savedTable, save, readSaved}
 use Rattle.cases.specs.Cases.{cases, All}
+use Rattle.cases.specs.Frames.{FrameCases}
 use Rattle.cases.specs.Orders.{Orders}
 use Rattle.cases.specs.WrittenOut.{WrittenOut}
 
-computed : WrittenOut × Orders × All cases
-unfolding ones numberAt if_then_else_ need_or_then_ ownerOf ownedOr0 ownedNot0 rank atMost isVoteUpTo placed requestRow prepareRow promiseRow proposeRow voteRow tableRow
+computed : WrittenOut × FrameCases × Orders × All cases
+unfolding ones numberAt withNumberAt if_then_else_ need_or_then_ ownerOf ownedOr0 ownedNot0 rank atMost isVoteUpTo placed requestRow prepareRow promiseRow proposeRow voteRow tableRow
     keepsTable messageOf fieldsOf whenRequest whenPrepare whenPromise whenPropose whenVote fieldsIn readPacket packetWith packetOf packetWrite fieldsRead packetRead
     afterReading afterPlacing ruled ruleAt act step acceptorsAllowed instancesAllowed allowed majority bit hasMember withMember within reaches cellsFrom every
     setFresh primary.primaryFresh acceptorTables.acceptorFresh backupTables.backupFresh learnerTables.learnerFresh
@@ -50,6 +61,8 @@ unfolding ones numberAt if_then_else_ need_or_then_ ownerOf ownedOr0 ownedNot0 r
     learnerTables.isAllowed learner.place learner.rule learner.learner learner.learnerStep learner.answerOfCell learner.answerAt learner.answerFor learner.answered
     deliver holes.decidedEndFrom holes.isHole holes.firstHoleFrom holes.findHole holes.answered header marked sameSettings
     cellBytes cellIn cellsBytes roundsOf setsOf valuesOf savedTable save readSaved
+    sumOnto ipv4Checksum sentAs udpChecksum carriesUdp frameCheck sealed frameSeal frameOf prepareFramed framePrepare framed
+    primaryFrame acceptorFrame backupFrame learnerFrame
 computed = (
   record {
     primary-fresh = refl;
@@ -81,6 +94,19 @@ computed = (
     null-not-read = refl;
     null-refused = refl;
     best-refused = refl;
+  },
+  record {
+    words-summed = refl;
+    header-summed = refl;
+    header-in-place = refl;
+    a-framed = refl;
+    a-passes = refl;
+    b-passes = refl;
+    b-voted = refl;
+    c-passes = refl;
+    c-voted = refl;
+    d-passes = refl;
+    d-refused = refl;
   },
   refl,
   (
@@ -128,8 +154,11 @@ computed = (
 writtenOut : WrittenOut
 writtenOut = computed .0
 
+pub frame-cases : FrameCases
+frame-cases = computed .1
+
 orders : Orders
-orders = computed .1
+orders = computed .2
 
 starred : All cases
-starred = computed .2
+starred = computed .3

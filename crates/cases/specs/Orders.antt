@@ -1,7 +1,8 @@
 -- The orders of refusal as one table: for each call, and each two neighbours in its order, an input that has both faults and is answered by the earlier number.
 -- N = 8, all cells of a table are alike, values are null and packets are for instance 0 unless said. No input has both of 8 and 17, since an instance not below N has no
 -- cell, nor both of the primary's 17 and 12, nor of the learner's 10 and 13: there each of the two has a row with the number before them, and with the one behind. Where M
--- is 7, 9 is never given, since sender 7 breaks the packet table.
+-- is 7, 9 is never given, since sender 7 breaks the packet table. The players' calls on frames have rows up to the packet's 2 and 3: from there on their
+-- orders are the packet's.
 -- Assumes nothing.
 use Prim.Native.Nat.{ℕ}
 use mathlib.Core.Path.{_≡_}
@@ -10,21 +11,28 @@ use lib.ListN.{set, replicate}
 use Rattle.basics.specs.declared.Value.{Value}
 use Rattle.basics.specs.Rounds.{theInstance, theRound, none}
 use Rattle.basics.specs.Values.{theValue, null}
-use Rattle.messages.specs.declared.Message.the-variants.{Request, Promise, Propose, Vote}
+use Rattle.messages.specs.declared.Message.the-variants.{Request, Prepare, Promise, Propose, Vote}
 use Rattle.wire.specs.Packet.{packetOf}
 use Rattle.packets.specs.Packets.{numbered, packetWrite, packetRead}
+use Rattle.frames.specs.Frame.{frameCheck, sealed, frameSeal}
+use Rattle.framing.specs.Framing.{addressed, framePrepare}
 use Rattle.quorum.specs.Settings.{settings}
 use Rattle.primary_rule.specs.Rule as primaryRule
 use Rattle.primary.specs.Primary.{primaryStep, primaryRequest}
+use Rattle.primary_port.specs.Port.{primaryFrame}
 use Rattle.acceptor_tables.specs.Tables as acceptors
 use Rattle.acceptor.specs.Acceptor.{acceptorStep}
+use Rattle.acceptor_port.specs.Port.{acceptorFrame}
 use Rattle.backup_tables.specs.Tables as backups
 use Rattle.backup.specs.Backup.{backupStep, backupStart}
+use Rattle.backup_port.specs.Port.{backupFrame}
 use Rattle.learner_tables.specs.Tables as learners
 use Rattle.learner.specs.Learner.{learnerStep, answerFor, answered}
+use Rattle.learner_port.specs.Port.{learnerFrame}
 use Rattle.learner_delivery.specs.Delivery.{deliver}
 use Rattle.learner_holes.specs.Holes as holes
 use Rattle.learner_saved.specs.Saved.{save, readSaved}
+use Rattle.cases.specs.Frames.{ethernet, ipv4}
 
 -- A row: what a call answers, and the number that the paper gives.
 pub record Row : Type 0 where
@@ -42,6 +50,9 @@ v = theValue 0 0x2a
 
 abbrev request : List ℕ
 request = packetOf (Request 9 v)
+
+abbrev prepare : List ℕ
+prepare = packetOf (Prepare (theInstance 0) (theRound 1))
 
 abbrev promise : (sender instance round : ℕ) → List ℕ
 promise sender instance round = packetOf (Promise sender (theInstance instance) (theRound round) none null)
@@ -352,12 +363,101 @@ readingIntoOrder =
     ∷ readingInto (set request 15 4) gives 5
     ∷ []
 
+-- ---- frames: 21 to 25
+
+-- From 192.0.2.1:40001 to 192.0.2.10:47036, both checksums right whatever the packet says.
+abbrev frameWith : (packet : List ℕ) → List ℕ
+frameWith packet = sealed (ethernet ++ ipv4 ++ 0x9c ∷ 0x41 ∷ 0xb7 ∷ 0xbc ∷ 0x00 ∷ 0x2c ∷ 0x00 ∷ 0x00 ∷ packet)
+
+-- All that judge a frame do it alike. A byte that is changed alone leaves the checksum over it wrong.
+abbrev judging : (call : (frame : List ℕ) → ℕ) → (frame : List ℕ) → List Row
+judging call frame =
+    -- 21 before 22: 79 bytes, the EtherType from the second on
+    call (0 ∷ frame) gives 21
+    -- 22 before 23: total length 65, and so another IPv4 checksum
+    ∷ call (set frame 17 65) gives 22
+    -- 23 before 24: another IPv4 checksum, another port
+    ∷ call (set (set frame 25 0) 37 0) gives 23
+    -- 24 before 25: another port, and so another UDP checksum
+    ∷ call (set frame 37 0) gives 24
+    -- 24 before 25: UDP length 45, and so another UDP checksum
+    ∷ call (set frame 39 45) gives 24
+    -- 25 before 2: another mark, and so another UDP checksum
+    ∷ call (set frame 42 0) gives 25
+    ∷ []
+
+-- ---- checking a frame: 21 to 25; sealing: 21, 22, 24
+
+abbrev checking : (frame : List ℕ) → ℕ
+checking frame = frameCheck 47036 frame
+
+abbrev sealing : (frame : List ℕ) → ℕ
+sealing frame = frameSeal frame .answer
+
+abbrev sealingOrder : List Row
+sealingOrder =
+    -- 21 before 22: 79 bytes, the EtherType from the second on
+    sealing (0 ∷ frameWith request) gives 21
+    -- 22 before 24: another EtherType, UDP length 45
+    ∷ sealing (set (set (frameWith request) 13 1) 39 45) gives 22
+    -- 24: UDP length 45
+    ∷ sealing (set (frameWith request) 39 45) gives 24
+    ∷ []
+
+-- ---- framing a prepare: 1 to 5, 6, 21
+
+-- Into 77 bytes, which is a fault of every row.
+abbrev framing : (packet : List ℕ) → ℕ
+framing packet = framePrepare (addressed (replicate 6 0) (replicate 6 0) 0 0 0 0) packet (replicate 77 0) .answer
+
+abbrev framingOrder : List Row
+framingOrder =
+    -- 1 before 2: 37 bytes, the mark from the second on
+    framing (0 ∷ prepare) gives 1
+    -- 2 before 3: another mark, version 2
+    ∷ framing (set (set prepare 0 0) 5 2) gives 2
+    -- 3 before 4: version 2, type 5
+    ∷ framing (set (set prepare 5 2) 3 5) gives 3
+    -- 4 before 5: type 5, round 4, which is nobody's
+    ∷ framing (set (set prepare 3 5) 15 4) gives 4
+    -- 5 before 6: another kind, in round 4
+    ∷ framing (set request 15 4) gives 5
+    -- 6 before 21: another kind
+    ∷ framing request gives 6
+    -- 21: 77 bytes
+    ∷ framing prepare gives 21
+    ∷ []
+
+-- ---- the players' calls on frames: 7, 21 to 25, then 2 on
+
+abbrev onFrames : (step : (M : ℕ) → (frame : List ℕ) → ℕ) → (packet : List ℕ) → List Row
+onFrames step packet =
+    -- 7 before 21: M is 4, 79 bytes
+    step 4 (0 ∷ frameWith packet) gives 7
+    ∷ judging (step 3) (frameWith packet) ++
+    -- 2 before 3: another mark, version 2
+    step 3 (frameWith (set (set packet 0 0) 5 2)) gives 2
+    ∷ []
+
+abbrev toPrimary : (M : ℕ) → (frame : List ℕ) → ℕ
+toPrimary M frame = primaryFrame (settings M 8) 47036 frame (0 ∷ []) .answer
+
+abbrev toAcceptor : (M : ℕ) → (frame : List ℕ) → ℕ
+toAcceptor M frame = acceptorFrame (settings M 8) 0 47036 frame (acceptors.tables (replicate 8 0) (replicate 8 0) (replicate 16 0)) .answer
+
+abbrev toBackup : (M : ℕ) → (frame : List ℕ) → ℕ
+toBackup M frame = backupFrame (settings M 8) 1 47036 frame (backupTables 1 0) .answer
+
+abbrev toLearner : (M : ℕ) → (frame : List ℕ) → ℕ
+toLearner M frame = learnerFrame (settings M 8) 47036 frame (learnerTables 1) .answer
+
 -- ---- all of them
 
 abbrev pub rows : List Row
 rows =
     primaryOrder bySlice ++ primaryOrder byReference ++ acceptorOrder ++ backupOrder ++ startOrder ++ learnerOrder ++ answerOrder ++ walkOrders ++ readingBackOrder
-    ++ writingOrder ++ readingIntoOrder
+    ++ writingOrder ++ readingIntoOrder ++ judging checking (frameWith request) ++ sealingOrder ++ framingOrder
+    ++ onFrames toPrimary request ++ onFrames toAcceptor (propose 0 0) ++ onFrames toBackup (promise 0 0 1) ++ onFrames toLearner (vote 1 0 5 null)
 
 -- Each call answers the paper's number.
 abbrev pub Orders : Type 0

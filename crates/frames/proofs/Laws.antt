@@ -23,7 +23,7 @@ use Rattle.player.proofs.Numbers.{one-of}
 use Rattle.frames.specs.Frame.{frameLength, etherType, firstByte, totalLength, udpLength, protocol, packetIn, withPacket}
 use Rattle.frames.specs.Frame.{ipv4Checksum, sentAs, udpChecksum, carriesUdp, frameCheck, Passes, sealed}
 use Rattle.frames.specs.Promises.{frameRefusals, Refused, SealedStays, SealedTwice, OthersStay}
-use Rattle.frames.proofs.Places.{same-part, beside-stored, beside-number, number-stands, stored-again, Bytes-sets, Bytes-number}
+use Rattle.frames.proofs.Places.{same-part, beside-stored, beside-number, number-stands, stored-again, Bytes-number}
 use Rattle.frames.proofs.Places.{SameHeader, middle-number, same-carries, same-ipv4, same-udp}
 
 -- ---- passing

@@ -1,6 +1,6 @@
 -- `checksum::in_16_bits` meets its contract: a number above 0 has its residue one less, counted from 0.
 -- Assumes nothing.
-use mathlib.Core.Path.{sym, ap, _∙_}
+use mathlib.Core.Path.{sym, ap}
 use native.Mathlib.Omega.{arith}
 use Rattle.checksum.specs.Promises.{residue}
 use Rattle.checksum.proofs.Laws.{residue-of}
