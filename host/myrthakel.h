@@ -272,8 +272,8 @@ uint32_t myrthakel_learner_read_saved(uint32_t acceptors, uint32_t instances,
  * - 23 an IPv4 checksum other than the computed one, also ffff hex where that is 0;
  * - 24 UDP length not 44, or another destination port;
  * - 25 a UDP checksum other than the computed one, which is ffff hex where the complement is 0: a received 0 is refused;
- * in that order, then the step's from 2 on: 1 never occurs. Of a frame that passes 21 to 25, any one bit flipped from byte 12 on is refused by one of them;
- * the Ethernet addresses, bytes 0 to 11, are in neither checksum.
+ * in that order, then the step's from 2 on: 1 never occurs. Of a frame that passes 21 to 25, any one byte changed from byte 12 on, by one bit or more, is refused
+ * by one of them; the Ethernet addresses, bytes 0 to 11, are in neither checksum.
  */
 uint32_t myrthakel_primary_frame(uint32_t acceptors, uint32_t instances, uint16_t port,
                                  uint8_t *frame, size_t frame_length,
