@@ -7,7 +7,7 @@ use mathlib.Core.Bool.{true, false, false≢true}
 use mathlib.Core.List.{List, _∷_}
 use native.Mathlib.Omega.{arith}
 use lib.Dec.{eqb}
-use lib.ListN.{length, getD}
+use lib.ListN.{length, getD, set}
 use borrow.Author.Tests.{eqb-true, eqb-false, eq-eqb}
 use Rattle.basics.specs.Outcome.{Outcome, outcome, Lent, lent}
 use Rattle.basics.specs.Verdict.{verdictNumber, saysSend, isVerdict}
@@ -21,11 +21,13 @@ use Rattle.player.specs.Step.{unchanged, Ruling, refused, sends, counts, Player
 use Rattle.player.proofs.Numbers.{one-of}
 use Rattle.player.proofs.Promises.{refusal-keeps-all}
 use Rattle.player.proofs.Steps.{step-elim}
-use Rattle.frames.specs.Frame.{packetIn, withPacket, Passes, sealed}
+use Rattle.frames.specs.Frame.{packetIn, withPacket, frameCheck, Passes, sealed}
+use Rattle.frames.specs.Promises.{frameRefusals}
+use Rattle.frames.proofs.Damage.{byte-refused}
 use Rattle.frames.proofs.Laws as frames
 use Rattle.port.specs.Framed.{inFrame, framed}
-use Rattle.port.specs.Promises.{portRefusals, FramePromises}
-use Rattle.port.proofs.Laws.{refused-elim, refused-quiet, frame-back, framed-elim, framed-steps}
+use Rattle.port.specs.Promises.{portRefusals, FramePromises, DamageRefused}
+use Rattle.port.proofs.Laws.{refused-elim, refused-quiet, refused-fails, frame-back, framed-elim, framed-steps}
 
 -- ---- what is asked of a player
 
@@ -133,3 +135,14 @@ module _ {Tables Cell : Type 0} (player : Player Tables Cell) (places : (m : Mes
               (λ _ passes _. frames.repacked-passes port frame (o .left .packet) passes);
           packet-stepped = framed-steps player port frame tables;
         }
+
+-- ---- a damaged frame
+
+pub damage-refused : {Tables Cell : Type 0} (player : Player Tables Cell) → DamageRefused player
+damage-refused player port frame tables bytes passes index new low high fits other =
+    let damaged = set frame index new in
+    let refuses = byte-refused port frame bytes passes index new low high fits other in
+    framed-elim player port damaged tables
+    (λ o. (number : ℕ) × (OneOf number (7 ∷ frameRefusals) × (o ≡ unchanged damaged tables number)))
+    (λ _. (7, (first, refl))) (λ _. (frameCheck port damaged, (later refuses, refl)))
+    (λ _ fine. absurd (refused-fails port damaged refuses fine))

@@ -1,16 +1,18 @@
 -- What is promised of the players' calls on frames, stated once for all players.
 -- Assumes nothing.
-use Prim.Native.Nat.{ℕ, _<_}
+use Prim.Native.Nat.{ℕ, _≤_, _<_}
 use mathlib.Core.Path.{_≡_}
 use mathlib.Core.Bool.{true, false}
 use mathlib.Core.List.{List, _∷_}
-use lib.ListN.{getD}
+use lib.ListN.{getD, set}
 use Rattle.numbers.specs.BigEndian.{Bytes}
 use Rattle.basics.specs.Outcome.{Outcome, outcome, Lent, lent}
 use Rattle.basics.specs.Verdict.{isVerdict, saysSend}
-use Rattle.player.specs.Promises.{Call, ActsOrRefuses}
-use Rattle.player.specs.Step.{unchanged}
-use Rattle.frames.specs.Frame.{packetIn, Passes}
+use Rattle.player.specs.Promises.{Call, OneOf, ActsOrRefuses}
+use Rattle.player.specs.Step.{unchanged, Player}
+use Rattle.frames.specs.Frame.{frameLength, packetIn, Passes}
+use Rattle.frames.specs.Promises.{frameRefusals}
+use Rattle.port.specs.Framed.{framed}
 
 -- The outcome of a call on a frame, with the 36 bytes that it left there in the frame's place.
 abbrev pub outOfFrame : {Tables : Type 0} → Outcome (Lent Tables) → Outcome (Lent Tables)
@@ -42,3 +44,11 @@ module _ {Tables : Type 0} (refusals verdicts : List ℕ) (port : ℕ) (frame : 
 abbrev pub FramePromises : {Tables : Type 0} → (call : (port : ℕ) → Call Tables) → (step : Call Tables) → (refusals verdicts : List ℕ) → Type 0
 FramePromises {Tables} call step refusals verdicts = (port : ℕ) (frame : List ℕ) (tables : Tables) → Bytes frame
     → Promised refusals verdicts port frame tables (call port frame tables) (step (packetIn frame) tables)
+
+-- No damaged frame reaches a player: of a frame that passes, any one byte but those of the Ethernet addresses changed in any way, the call refuses by 7 or by one
+-- of 21 to 25, and leaves frame and tables as they came.
+abbrev pub DamageRefused : {Tables Cell : Type 0} → Player Tables Cell → Type 0
+DamageRefused {Tables} player = (port : ℕ) (frame : List ℕ) (tables : Tables) → Bytes frame → Passes port frame
+    → (index new : ℕ) → 12 ≤ index → index < frameLength → new < 256 → (new ≡ getD frame index 0 → ⊥)
+    → let damaged = set frame index new in
+    (number : ℕ) × (OneOf number (7 ∷ frameRefusals) × (framed player port damaged tables ≡ unchanged damaged tables number))
