@@ -61,7 +61,7 @@ sentAs computed = if eqb computed 0 then 65535 else computed
 
 -- RFC 768: the complement of the sum of the pseudo header, the UDP header, its field taken as zero, and the packet.
 unfoldable pub udpChecksum : (frame : List ℕ) → ℕ
-udpChecksum f = sentAs (complement (onesSum (pseudoHeader f ++ bytesAt f 34 6 ++ toBytes 2 0 ++ bytesAt f 42 36)))
+udpChecksum f = sentAs (complement (onesSum (pseudoHeader f ++ bytesAt f 34 6 ++ toBytes 2 0 ++ packetIn f)))
 
 -- Refused by 22: EtherType not 0800 hex, first IPv4 byte not 45 hex, total length not 64, a fragment, or protocol not 17. A fragment has more fragments after
 -- it or an offset, the low 14 bits; don't-fragment and the reserved bit make none.
