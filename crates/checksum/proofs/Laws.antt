@@ -7,7 +7,6 @@ use mathlib.Core.List.{List, [], _∷_, _++_}
 use native.Mathlib.Nat.{add-zero, zero-add}
 use native.Mathlib.Omega.{arith}
 use lib.ListN.{length, getD, set}
-use Rattle.numbers.specs.BigEndian.{Bytes}
 use Rattle.basics.specs.Ladder.{if_then_else_}
 use Rattle.checksum.specs.Sum.{carryRound, sumOnto, complement}
 use Rattle.checksum.specs.Promises.{plainSum, residue, SumIsResidue, PartsAdd, weight, ByteMoves}
@@ -92,14 +91,6 @@ byte-moves (high ∷ low ∷ rest) (suc (suc index)) new inside =
     rw same (omega arith)
 
 -- ---- for callers
-
-pub sum-low : (carried : ℕ) (bytes : List ℕ) → carried < 65536 → Bytes bytes → sumOnto carried bytes < 65536
-sum-low carried bytes low fits = omega (arith, sum-is-residue carried bytes low fits, residue-at-most (carried + plainSum bytes))
-
--- a field of zeros adds nothing
-pub zero-word : (carried : ℕ) (rest : List ℕ) → carried < 65536 → sumOnto carried (0 ∷ 0 ∷ rest) ≡ sumOnto carried rest
-unfolding sumOnto
-zero-word carried rest low = let same : carryRound (carried + (0 * 256 + 0)) ≡ carried = omega arith in ap (λ sum. sumOnto sum rest) same
 
 pub plain-append : (front back : List ℕ) → length front % 2 ≡ 0 → plainSum (front ++ back) ≡ plainSum front + plainSum back
 unfolding plainSum

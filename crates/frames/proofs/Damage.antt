@@ -6,19 +6,20 @@ use mathlib.Core.Path.{_≡_, refl, sym, ap, _∙_}
 use mathlib.Core.List.{List, [], _∷_, _++_}
 use native.Mathlib.Omega.{arith}
 use lib.Dec.{eqb, ltb}
-use lib.ListN.{length, getD, set, length-append}
+use lib.ListN.{length, getD, set}
 use lib.Seq.{getD-set-other}
 use borrow.Author.Tests.{eqb-true, eqb-false, ltb-true, ltb-false}
 use Rattle.numbers.specs.BigEndian.{toBytes, bytesAt, numberAt, Bytes}
-use Rattle.numbers.proofs.Bytes.{number-within, bytesAt-add, length-bytesAt, Bytes-append, Bytes-toBytes, Bytes-bytesAt}
+use Rattle.numbers.proofs.Bytes.{number-within, bytesAt-add, length-bytesAt, Bytes-bytesAt}
 use Rattle.basics.proofs.Ladder.{by-test, if-elim}
 use Rattle.checksum.specs.Sum.{onesSum, complement}
-use Rattle.checksum.specs.Promises.{plainSum, residue}
-use Rattle.checksum.proofs.Laws.{sum-is-residue, plain-append, complement-closes, one-byte-tells}
+use Rattle.checksum.specs.Promises.{plainSum}
+use Rattle.checksum.proofs.Laws.{plain-append, complement-closes, one-byte-tells}
 use Rattle.wire.specs.Packet.{packetLength}
 use Rattle.frames.specs.Frame.{frameLength, udpLength, protocol, packetIn, pseudoHeader, sentAs, ipv4Checksum, udpChecksum}
 use Rattle.frames.specs.Promises.{Refused, ByteRefused, flipped, FlipRefused}
 use Rattle.frames.proofs.Places.{same-part, part-at, part-set, Bytes-set}
+use Rattle.frames.proofs.Sums.{sum-without-field, before-bytes}
 use Rattle.frames.proofs.Laws.{Passed, passed, refused, carried}
 
 -- ---- sums of frames that pass
@@ -37,22 +38,11 @@ part-sums f at v w even =
     (ap plainSum (bytesAt-add f (at + v) 2 w) ∙ plain-append (bytesAt f (at + v) 2) (bytesAt f (at + v + 2) w) refl)
 
 module _ (before after : List ℕ) (bytes-before : Bytes before) (bytes-after : Bytes after) (even : length before % 2 ≡ 0) where
-  -- a field taken as zero adds nothing
-  sum-without-field : onesSum (before ++ toBytes 2 0 ++ after) ≡ residue (plainSum before + plainSum after)
-  unfolding plainSum
-  sum-without-field =
-      let long = length-append before (toBytes 2 0) in
-      let front = plain-append before (toBytes 2 0) even in
-      let whole = plain-append (before ++ toBytes 2 0) after (omega arith) in
-      sum-is-residue 0 (before ++ toBytes 2 0 ++ after) (omega arith)
-      (Bytes-append (before ++ toBytes 2 0) after (Bytes-append before (toBytes 2 0) bytes-before (Bytes-toBytes 2 0)) bytes-after)
-      ∙ ap residue (omega arith)
-
-  -- and the complement of the sum, in its place, makes the sum a multiple of 65,535
+  -- the complement of the sum, in its place, makes the sum a multiple of 65,535
   field-closes : (plainSum before + plainSum after + complement (onesSum (before ++ toBytes 2 0 ++ after))) % 65535 ≡ 0
   field-closes =
       let plain = plainSum before + plainSum after in
-      ap (λ sum. (plain + complement sum) % 65535) sum-without-field ∙ complement-closes plain
+      ap (λ sum. (plain + complement sum) % 65535) (sum-without-field before after bytes-before bytes-after even) ∙ complement-closes plain
 
 -- zero sent as all ones changes no residue
 sent-closes : (sum computed : ℕ) → (sum + computed) % 65535 ≡ 0 → (sum + sentAs computed) % 65535 ≡ 0
@@ -76,10 +66,7 @@ module _ (port : ℕ) (f : List ℕ) (bytes : Bytes f) (h : Passed port f) where
       let long = h .long in
       let before = pseudoHeader f ++ bytesAt f 34 6 in
       let sum = plainSum before + plainSum (packetIn f) in
-      let pseudo-bytes : Bytes (pseudoHeader f) = Bytes-append (bytesAt f 26 8 ++ (0 ∷ protocol ∷ [])) (toBytes 2 udpLength)
-      (Bytes-append (bytesAt f 26 8) (0 ∷ protocol ∷ []) (Bytes-bytesAt f bytes 26 8) (Bytes-toBytes 2 protocol)) (Bytes-toBytes 2 udpLength) in
-      let closed = sent-closes sum _ (field-closes before (packetIn f) (Bytes-append (pseudoHeader f) (bytesAt f 34 6) pseudo-bytes (Bytes-bytesAt f bytes 34 6))
-      (Bytes-bytesAt f bytes 42 packetLength) refl) in
+      let closed = sent-closes sum _ (field-closes before (packetIn f) (before-bytes f bytes) (Bytes-bytesAt f bytes 42 packetLength) refl) in
       let parts = part-sums f 34 6 36 refl in
       let front = plain-append (pseudoHeader f) (bytesAt f 34 6) refl in
       let field = field-weighs f 40 (omega arith) ∙ h .udp in
