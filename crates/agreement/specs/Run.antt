@@ -1,7 +1,7 @@
 -- Runs. All players start fresh, each with its own number and all with the same settings; nothing but its own calls changes a player's tables, and none is
 -- reset. What a call does is the definition that the exported call's own contract cites, over packet bytes and lent tables. Every exported call is one of a
--- run, but for those that set tables fresh, with which it begins (agreement/specs/Begin.antt), for writing and reading packets, which touch no table, and for
--- reading a saved table back.
+-- run, but for those that set tables fresh, with which it begins (agreement/specs/Begin.antt), for writing and reading packets and for checking, sealing and
+-- framing, which touch no table, and for reading a saved table back. The players' calls on frames are those of runs over frames (frame_agreement).
 -- Assumes nothing.
 use Prim.Native.Nat.{ℕ, _*_, _^_, _<_}
 use mathlib.Core.Path.{_≡_}

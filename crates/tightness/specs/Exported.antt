@@ -82,7 +82,7 @@ pub record ExportedCalls : Type 2 where
       answer (_, (kind′, (switch′, (instance′, (round′, (voteRound′, (high′, (low′, _)))))))).
       outcome answer (numbered (now kind′) (now switch′) (now instance′) (now round′) (now voteRound′) (now high′) (now low′))
       ≡ packetRead (now packet) (numbered (now kind) (now switch) (now instance) (now round) (now voteRound) (now high) (now low))
-  -- Nor has it calls that check, seal or frame: what is promised of them stands in frames and framing.
+  -- Nor one that checks, seals or frames by call: what is promised of that stands in frames and framing.
   pub of-frame-check : Does frame-check.Learnt λ _ (port, (frame, _)) answer _. answer ≡ frameCheck port (now frame)
   pub of-frame-seal : Does frame-seal.Learnt λ _ (frame, _) answer (frame′, _). outcome answer (now frame′) ≡ frameSeal (now frame)
   pub of-frame-prepare : Does frame-prepare.Learnt
