@@ -1,5 +1,5 @@
 /*
- * The orders of refusal as a C program meets them, row by row as in crates/cases/specs/Orders.antt: an input that has two faults is answered by the number
+ * The orders of refusal as a C program meets them, row by row as in crates/proved_cases/specs/Orders.antt: an input that has two faults is answered by the number
  * that comes first, and is left as it came. N = 8, all cells of a table are alike, and values are null unless said.
  */
 #include "cases.h"

@@ -1,5 +1,5 @@
 /*
- * Calls whose packets, tables and answers are all written out in numbers, as in crates/cases/specs/WrittenOut.antt. M = 3, N = 2, instance 1, and the value has the
+ * Calls whose packets, tables and answers are all written out in numbers, as in crates/proved_cases/specs/WrittenOut.antt. M = 3, N = 2, instance 1, and the value has the
  * bytes 1 to 16. Backup 1's round is 16,909,061, which has the bytes 1, 2, 3, 5.
  */
 #include "cases.h"

@@ -1,4 +1,4 @@
-// Runs the cases of the paper that are not starred, M = 3, N = 8 unless said, and prints each with its answer. The starred ones are proved, in proofs/.
+// Runs the cases of the paper that are not starred, M = 3, N = 8 unless said, and prints each with its answer. The starred ones are proved, in proved_cases.
 use basics::Instance;
 use basics::Round;
 use basics::Value;

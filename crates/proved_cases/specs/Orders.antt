@@ -32,7 +32,7 @@ use Rattle.learner_port.specs.Port.{learnerFrame}
 use Rattle.learner_delivery.specs.Delivery.{deliver}
 use Rattle.learner_holes.specs.Holes as holes
 use Rattle.learner_saved.specs.Saved.{save, readSaved}
-use Rattle.cases.specs.Frames.{ethernet, ipv4}
+use Rattle.proved_cases.specs.Frames.{ethernet, ipv4}
 
 -- A row: what a call answers, and the number that the paper gives.
 pub record Row : Type 0 where

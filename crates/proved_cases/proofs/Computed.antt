@@ -43,10 +43,10 @@ use Rattle.learner_delivery.specs.Delivery.{deliver}
 use Rattle.learner_holes.specs.Holes as holes
 use Rattle.learner_file.specs.File.{header, marked, sameSettings, cellBytes, cellIn, cellsBytes, roundsOf, setsOf, valuesOf}
 use Rattle.learner_saved.specs.Saved.{savedTable, save, readSaved}
-use Rattle.cases.specs.Cases.{cases, All}
-use Rattle.cases.specs.Frames.{FrameCases}
-use Rattle.cases.specs.Orders.{Orders}
-use Rattle.cases.specs.WrittenOut.{WrittenOut}
+use Rattle.proved_cases.specs.Cases.{cases, All}
+use Rattle.proved_cases.specs.Frames.{FrameCases}
+use Rattle.proved_cases.specs.Orders.{Orders}
+use Rattle.proved_cases.specs.WrittenOut.{WrittenOut}
 
 computed : WrittenOut × FrameCases × Orders × All cases
 unfolding ones numberAt withNumberAt if_then_else_ need_or_then_ ownerOf ownedOr0 ownedNot0 rank atMost isVoteUpTo placed requestRow prepareRow promiseRow proposeRow voteRow tableRow
