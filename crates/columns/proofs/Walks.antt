@@ -1,14 +1,23 @@
 -- A walk over the cells from an index on: its next cell, its end, and the walk that judges every cell.
 -- Assumes nothing.
 use Prim.Native.Nat.{ℕ, zero, suc, _+_, _-_, _≤_, _<_}
-use mathlib.Core.Path.{_≡_, refl, sym, ap, _∙_}
+use mathlib.Core.Path.{_≡_, refl, sym, ap, _∙_, subst}
 use mathlib.Core.Bool.{Bool, true, false, not}
 use mathlib.Core.List.{List, [], _∷_}
+use native.Mathlib.Decide.{ℕ-discrete}
 use native.Mathlib.Omega.{arith}
 use native.Mathlib.Numerals.{add-one}
 use borrow.Author.Tests.{not-true, not-false}
-use Rattle.basics.proofs.Ladder.{and-true}
+use Rattle.basics.proofs.Ladder.{both-true, and-true}
 use Rattle.columns.specs.Walks.{cellsFrom, every}
+
+-- what holds of a number, and of every other one, holds of each
+pub here-or-elsewhere : (P : ℕ → Type 0) (number j : ℕ) → P number → ((number ≡ j → ⊥) → P j) → P j
+here-or-elsewhere P number j here elsewhere = go (ℕ-discrete number j)
+  where
+    go : Dec (number ≡ j) → P j
+    go (yes same) = subst P same here
+    go (no other) = elsewhere other
 
 module _ {Cell : Type 0} (cellAt : ℕ → Cell) where
   module _ (index count : ℕ) where
@@ -50,3 +59,11 @@ module _ {Cell : Type 0} (cellAt : ℕ → Cell) where
     unfolding every cellsFrom
     every-passes index zero fine = refl
     every-passes index (suc count) fine = and-true (fine index (omega arith)) (every-passes (suc index) count (λ i below. fine i (omega arith)))
+
+    -- and where every one does, each cell passes
+    pub every-brings : (index count : ℕ) → every test (cellsFrom cellAt index count) ≡ true → (i : ℕ) → index ≤ i → i < index + count → test (cellAt i) ≡ true
+    unfolding every cellsFrom
+    every-brings index zero all i least low = absurd (omega arith)
+    every-brings index (suc count) all i least low =
+        let parts = both-true (test (cellAt index)) (every test (cellsFrom cellAt (suc index) count)) all in
+        here-or-elsewhere (λ k. test (cellAt k) ≡ true) index i (parts .0) λ other. every-brings (suc index) count (parts .1) i (omega (arith, other)) (omega arith)

@@ -6,17 +6,17 @@ use mathlib.Core.Bool.{true, false, not, _&&_, false≢true}
 use mathlib.Core.Logic.{⊎-elim}
 use native.Mathlib.Omega.{arith}
 use lib.Dec.{eqb, leb}
-use borrow.Author.Tests.{not-true, leb-true, leb-false, le-leb, eqb-true, ne-eqb}
+use borrow.Author.Tests.{not-true, not-false, leb-true, leb-false, le-leb, eqb-true, ne-eqb}
 use Rattle.basics.proofs.Values.{ValueFits}
 use Rattle.basics.specs.declared.Round.{Round}
 use Rattle.basics.specs.declared.Value.{Value}
-use Rattle.basics.specs.Rounds.{isNone, ownedOr0}
-use Rattle.basics.specs.Values.{isNull}
+use Rattle.basics.specs.Rounds.{theRound, none, isNone, ownedOr0}
+use Rattle.basics.specs.Values.{theValue, isNull}
 use Rattle.basics.proofs.Ladder.{by-test, both-true, and-true, or-right, or-cases}
 use Rattle.quorum.specs.Quorum.{majority, hasMember, within, size, reaches, reachesMajority}
 use Rattle.quorum.proofs.Laws.{majority-some, reaches-iff, empty-size, empty-within, with-member-size, with-member-within}
 use Rattle.learner_cell.specs.declared.Cell.{Cell}
-use Rattle.learner_cell.specs.Cell.{cell, freshCell, isDecided, isFresh, isHeard, possible, withVoter}
+use Rattle.learner_cell.specs.Cell.{cell, freshCell, isDecided, hasVote, isFresh, isHeard, possible, withVoter}
 use Rattle.learner_cell.specs.Promises.{FreshPossible, FreshUndecided}
 
 pub same-cell : {c d : Cell} → c .round ≡ d .round → c .set ≡ d .set → c .value ≡ d .value → c ≡ d
@@ -64,14 +64,28 @@ unfolding possible isHeard
 made-heard M c h =
     or-right (isFresh c) (and-true (and-true (and-true (h .owned) (h .inside)) (ap not (ne-eqb (c .set) 0 (h .some)))) (le-leb _ _ (h .few)))
 
+pub fresh-is : (c : Cell) → isFresh c ≡ true → c ≡ freshCell
+unfolding isFresh
+fresh-is c fresh =
+    let unheard = both-true (isNone (c .round) && eqb (c .set) 0) (isNull (c .value)) fresh in
+    let empty = both-true (isNone (c .round)) (eqb (c .set) 0) (unheard .0) in
+    let halves = both-true (eqb (c .value .high) 0) (eqb (c .value .low) 0) (unheard .1) in
+    let high = eqb-true (c .value .high) 0 (halves .0) in
+    let low = eqb-true (c .value .low) 0 (halves .1) in
+    same-cell (ap theRound (eqb-true (c .round .0) (none .0) (empty .0))) (eqb-true (c .set) 0 (empty .1)) (λ i. theValue (high i) (low i))
+
 -- the set of a possible cell is within M
 pub possible-inside : (M : ℕ) (c : Cell) → possible M c ≡ true → within M (c .set) ≡ true
-unfolding possible isFresh
+unfolding possible
 possible-inside M c fine =
-    ⊎-elim
-    (λ fresh. let empty = both-true (isNone (c .round)) (eqb (c .set) 0) (both-true (isNone (c .round) && eqb (c .set) 0) (isNull (c .value)) fresh .0) .1 in
-    rw (eqb-true (c .set) 0 empty) (empty-within M))
-    (λ heard. heard-brings M c heard .inside) (or-cases (isFresh c) (isHeard M c) fine)
+    ⊎-elim (λ fresh. rw (ap (λ (d : Cell). d .set) (fresh-is c fresh)) (empty-within M)) (λ heard. heard-brings M c heard .inside)
+    (or-cases (isFresh c) (isHeard M c) fine)
+
+-- a possible cell without a vote is the fresh one
+pub voteless-fresh : (M : ℕ) (c : Cell) → possible M c ≡ true → hasVote c ≡ false → c ≡ freshCell
+unfolding possible hasVote
+voteless-fresh M c fine no-vote =
+    ⊎-elim (fresh-is c) (λ heard. absurd (heard-brings M c heard .some (eqb-true _ _ (not-false (eqb (c .set) 0) no-vote)))) (or-cases (isFresh c) (isHeard M c) fine)
 
 -- ---- a possible cell stays possible
 

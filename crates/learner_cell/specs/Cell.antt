@@ -20,6 +20,10 @@ freshCell = cell none 0 null
 unfoldable pub isDecided : (M : ℕ) → Cell → Bool
 isDecided M c = reachesMajority M (c .set)
 
+-- With a vote in its set, whatever that is for.
+unfoldable pub hasVote : Cell → Bool
+hasVote c = not (eqb (c .set) 0)
+
 -- The value of a decided cell.
 unfoldable pub valueOf : (M : ℕ) → Cell → Value
 valueOf M c = c .value

@@ -1,6 +1,6 @@
 // What a learner keeps of one instance, the votes of one round, and which of that is possible and decided.
 ghost use mathlib.Core.Path.{_≡_};
-ghost use Rattle.learner_cell.specs.Cell.{freshCell, isDecided, valueOf, isFresh, isHeard, possible, withVoter};
+ghost use Rattle.learner_cell.specs.Cell.{freshCell, isDecided, hasVote, valueOf, isFresh, isHeard, possible, withVoter};
 use basics::Round;
 use basics::Value;
 
@@ -25,6 +25,13 @@ pub fn is_decided(acceptors: u32, cell: Cell) -> bool
     ensures { λ r. ⌜ r ≡ isDecided acceptors cell ⌝ }
 {
     quorum::reaches_majority(acceptors, cell.set)
+}
+
+// With a vote in its set, whatever that is for: a vote for null is one too.
+pub fn has_vote(cell: Cell) -> bool
+    ensures { λ r. ⌜ r ≡ hasVote cell ⌝ }
+{
+    cell.set != 0
 }
 
 // The value of a decided cell. A cell holds one, whatever M is.

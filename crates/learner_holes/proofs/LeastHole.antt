@@ -3,8 +3,9 @@
 -- Assumes nothing.
 use Prim.Native.Nat.{ℕ, zero, suc, _+_, _≤_, _<_}
 use mathlib.Core.Path.{_≡_, refl, sym, ap, _∙_, subst}
-use mathlib.Core.Bool.{Bool, true, false, not, false≢true}
-use native.Mathlib.Decide.{decLt, ℕ-discrete}
+use mathlib.Core.Bool.{Bool, true, false, not, _||_, false≢true}
+use mathlib.Core.Logic.{⊎-elim, inl, inr}
+use native.Mathlib.Decide.{decLt}
 use native.Mathlib.Numerals.{add-one}
 use native.Mathlib.Omega.{arith}
 use lib.Dec.{ltb}
@@ -13,24 +14,17 @@ use Rattle.basics.specs.declared.Verdict.the-variants.{Done, NoHole}
 use Rattle.basics.specs.Ladder.{if_then_else_}
 use Rattle.basics.specs.Rounds.{theInstance}
 use Rattle.basics.specs.Verdict.{verdictNumber}
-use Rattle.basics.proofs.Ladder.{by-test, both-true, and-true, need-elim, if-true, if-false}
+use Rattle.basics.proofs.Ladder.{by-test, both-true, and-true, or-left, or-right, or-cases, need-elim, if-true, if-false}
 use Rattle.player.specs.Promises.{OneOf, first, later}
 use Rattle.quorum.specs.declared.Settings.{Settings}
-use Rattle.learner_cell.specs.Cell.{isDecided}
+use Rattle.learner_cell.specs.Cell.{isDecided, hasVote}
 use Rattle.columns.specs.Walks.{cellsFrom}
-use Rattle.learner_tables.specs.Tables.{Tables, cellAt, cells}
+use Rattle.columns.proofs.Walks.{here-or-elsewhere}
+use Rattle.learner_tables.specs.Tables.{Tables, cellAt, cells, allPossible}
 use Rattle.learner_holes.specs.declared.Hole.{Hole}
 use Rattle.learner_holes.specs.declared.Hole.the-variants as holes
 use Rattle.learner_holes.specs.Holes.{decidedEndFrom, decidedEnd, isHole, firstHoleFrom, firstHole, findHole, answered}
-use Rattle.learner_holes.specs.Promises.{HoleAt, HoleIff, Least, LeastHole, numbers, HolePromises}
-
--- what holds of a number, and of every other one, holds of each
-here-or-elsewhere : (P : ℕ → Type 0) (number j : ℕ) → P number → ((number ≡ j → ⊥) → P j) → P j
-here-or-elsewhere P number j here elsewhere = go (ℕ-discrete number j)
-  where
-    go : Dec (number ≡ j) → P j
-    go (yes same) = subst P same here
-    go (no other) = elsewhere other
+use Rattle.learner_holes.specs.Promises.{BelowDecided, HoleAt, HoleIff, Least, LeastHole, numbers, HolePromises}
 
 -- ---- the walk finds the first instance that passes the test
 
@@ -130,15 +124,11 @@ module _ (M N : ℕ) (t : Tables) where
   found-end : End M t 0 0 N end
   found-end = end-found M t 0 0 N (omega arith)
 
-  pub passes-hole : (number : ℕ) → isHole M end number (cellAt t number) ≡ true → HoleAt M N t number
-  unfolding isHole
-  passes-hole number e =
-      let parts = both-true (not (isDecided M (cellAt t number))) (ltb number end) e in
-      let undecided = not-true (isDecided M (cellAt t number)) (parts .0) in
-      let low = ltb-true number end (parts .1) in
+  -- an undecided instance below the end is below the decided one that stands there
+  below-end : (number : ℕ) → isDecided M (cellAt t number) ≡ false → number < end → BelowDecided M N t number
+  below-end number undecided low =
       let top = found-end .last (omega (arith, low)) in
       record {
-        undecided = undecided;
         above = top .0;
         inside = omega (arith, found-end .most, top .1 .0);
         below = here-or-elsewhere (λ k. isDecided M (cellAt t k) ≡ true → number ≤ k → number < k) number (top .0) (λ decided _. absurd (false≢true (sym undecided ∙ decided)))
@@ -146,27 +136,41 @@ module _ (M N : ℕ) (t : Tables) where
         decided = top .1 .1;
       }
 
+  pub passes-hole : (number : ℕ) → number < N → isHole M end number (cellAt t number) ≡ true → HoleAt M N t number
+  unfolding isHole
+  passes-hole number inside e =
+      let parts = both-true (not (isDecided M (cellAt t number))) (ltb number end || hasVote (cellAt t number)) e in
+      let undecided = not-true (isDecided M (cellAt t number)) (parts .0) in
+      record {
+        inside = inside;
+        undecided = undecided;
+        because = ⊎-elim (λ low. inl (below-end number undecided (ltb-true number end low))) inr (or-cases (ltb number end) (hasVote (cellAt t number)) (parts .1));
+      }
+
   pub hole-passes : (number : ℕ) → HoleAt M N t number → isHole M end number (cellAt t number) ≡ true
   unfolding isHole
-  hole-passes number h =
-      let top = found-end .below (h .above) (omega arith) (omega (arith, h .inside)) (h .decided) in
-      and-true (ap not (h .undecided)) (lt-ltb number end (omega (arith, top, h .below)))
+  hole-passes number h = and-true (ap not (h .undecided)) (⊎-elim under (or-right (ltb number end)) (h .because))
+    where
+      under : BelowDecided M N t number → ltb number end || hasVote (cellAt t number) ≡ true
+      under b =
+          let top = found-end .below (b .above) (omega arith) (omega (arith, b .inside)) (b .decided) in
+          or-left (hasVote (cellAt t number)) (lt-ltb number end (omega (arith, top, b .below)))
 
   -- two things said of one test
   never : (j : ℕ) → HoleAt M N t j → isHole M end j (cellAt t j) ≡ false → ⊥
   never j h fails = false≢true (sym fails ∙ hole-passes j h)
 
   least-of : (h : Hole) → First M end t 0 N h → Least M N t h
-  least-of (holes.Found i) found = (passes-hole (i .0) (found .0), λ j h. by-place j h (decLt j (i .0)))
+  least-of (holes.Found i) found = (passes-hole (i .0) (omega (arith, found .1 .0)) (found .0), λ j h. by-place j h (decLt j (i .0)))
     where
       by-place : (j : ℕ) → HoleAt M N t j → Dec (j < i .0) → i .0 ≤ j
       by-place j h (yes low) = absurd (never j h (found .1 .1 j (omega arith) low))
       by-place j h (no least) = omega (arith, least)
-  least-of holes.NoHole none = λ j h. never j h (none j (omega arith) (omega (arith, h .inside, h .below)))
+  least-of holes.NoHole none = λ j h. never j h (none j (omega arith) (omega (arith, h .inside)))
   least-of (holes.Refused number) impossible = impossible
 
 pub hole-iff : HoleIff
-hole-iff M N t number = (passes-hole M N t number, hole-passes M N t number)
+hole-iff M N t number inside = (passes-hole M N t number inside, hole-passes M N t number)
 
 pub least-hole : LeastHole
 least-hole M N t = least-of M N t (firstHole M (cellsFrom (cellAt t) 0 N)) (first-found M (end M N t) t 0 N)
@@ -177,6 +181,16 @@ module _ (s : Settings) (t : Tables) where
   hole-elim : (Q : Hole → Type 0) → Q (holes.Refused 7) → Q (holes.Refused 17) → Q (firstHole (s .acceptors) (cells s t)) → Q (findHole s t)
   unfolding findHole
   hole-elim Q seven seventeen walked = need-elim Q _ _ _ seven λ _. need-elim Q _ _ _ seventeen λ _. walked
+
+  -- where there is none, every cell is possible, and the walk found none
+  abbrev Walked : Type 0
+  Walked = (allPossible (s .acceptors) (cells s t) ≡ true) × (firstHole (s .acceptors) (cells s t) ≡ holes.NoHole)
+
+  pub none-walked : findHole s t ≡ holes.NoHole → Walked
+  unfolding findHole answered
+  none-walked =
+      need-elim (λ h. h ≡ holes.NoHole → Walked) _ _ _ (λ none. absurd (omega (arith, ap (λ h. answered 0 h .answer) none))) λ _.
+      need-elim (λ h. h ≡ holes.NoHole → Walked) _ _ _ (λ none. absurd (omega (arith, ap (λ h. answered 0 h .answer) none))) λ possible none. (possible, none)
 
   pub hole-numbers : (before : ℕ) → OneOf (answered before (findHole s t) .answer) numbers
   unfolding answered

@@ -1,2 +1,3 @@
 mod Ways
 pub mod LeastHole
+pub mod NoneExactly

@@ -1,7 +1,7 @@
--- Holes: undecided instances below the highest decided one.
+-- Holes: undecided instances below the highest decided one or with a vote in their sets.
 -- Assumes nothing.
 use Prim.Native.Nat.{ℕ, _+_}
-use mathlib.Core.Bool.{Bool, not, _&&_}
+use mathlib.Core.Bool.{Bool, not, _&&_, _||_}
 use mathlib.Core.List.{List, [], _∷_}
 use lib.Dec.{ltb}
 use Rattle.basics.specs.declared.Verdict.the-variants.{Done, NoHole}
@@ -11,7 +11,7 @@ use Rattle.basics.specs.Rounds.{theInstance}
 use Rattle.basics.specs.Verdict.{verdictNumber}
 use Rattle.quorum.specs.declared.Settings.{Settings}
 use Rattle.learner_cell.specs.declared.Cell.{Cell}
-use Rattle.learner_cell.specs.Cell.{isDecided}
+use Rattle.learner_cell.specs.Cell.{isDecided, hasVote}
 use Rattle.learner_tables.specs.Tables.{Tables, learnerAllowed, cells, allPossible}
 use Rattle.learner_holes.specs.declared.Hole.{Hole}
 use Rattle.learner_holes.specs.declared.Hole.the-variants as holes
@@ -25,9 +25,9 @@ decidedEndFrom M number end (c ∷ cs) = decidedEndFrom M (number + 1) (if isDec
 abbrev pub decidedEnd : (M : ℕ) → List Cell → ℕ
 decidedEnd M cs = decidedEndFrom M 0 0 cs
 
--- A hole is an undecided instance below the highest decided one, whose end this is.
+-- A hole is an undecided instance below the highest decided one, whose end this is, or with a vote in its set.
 unfoldable pub isHole : (M end number : ℕ) → Cell → Bool
-isHole M end number c = not (isDecided M c) && ltb number end
+isHole M end number c = not (isDecided M c) && (ltb number end || hasVote c)
 
 -- The walk over instances stops at the first hole, answered as its number, or "none".
 unfoldable pub firstHoleFrom : (M end number : ℕ) → List Cell → Hole

@@ -1,4 +1,4 @@
-// The first hole of a learner's tables: the smallest undecided instance below the highest decided one. Every cell is looked at.
+// The first hole of a learner's tables: the smallest undecided instance below the highest decided one or with a vote in its set. Every cell is looked at.
 ghost use mathlib.Core.Path.{_≡_};
 ghost use Rattle.basics.specs.Outcome.{outcome};
 ghost use Rattle.quorum.specs.Settings.{settings};
@@ -35,7 +35,7 @@ fn decided_end(acceptors: u32, instances: u32, rounds: &[u32], sets: &[u8], valu
 fn is_hole(acceptors: u32, end: u32, number: u32, cell: Cell) -> bool
     ensures { λ r. ⌜ r ≡ isHole acceptors end number cell ⌝ }
 {
-    !learner_cell::is_decided(acceptors, cell) & (number < end)
+    !learner_cell::is_decided(acceptors, cell) & ((number < end) | learner_cell::has_vote(cell))
 }
 
 fn first_hole(acceptors: u32, instances: u32, rounds: &[u32], sets: &[u8], values: &[u64]) -> Hole

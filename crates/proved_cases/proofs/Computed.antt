@@ -57,7 +57,7 @@ unfolding ones numberAt withNumberAt if_then_else_ need_or_then_ ownerOf ownedOr
     acceptorRule.possible acceptorRule.orderOf acceptorRule.obeying acceptorRule.obey acceptorTables.tablesAllowed acceptorTables.isAllowed acceptor.acceptor acceptor.acceptorStep
     backupCell.isFresh backupCell.phaseFits backupCell.isStarted backupCell.possible backupRule.nextRound backupRule.start backupRule.counting backupRule.chosen
     backupRule.whenMajority backupRule.takePromise backupTables.tablesAllowed backupTables.isAllowed backup.backup backup.backupStep backup.backupStart
-    learnerCell.isDecided learnerCell.valueOf learnerCell.isFresh learnerCell.isHeard learnerCell.possible learnerRule.holdOrDecide learnerRule.addVoter learnerRule.countVote
+    learnerCell.isDecided learnerCell.hasVote learnerCell.valueOf learnerCell.isFresh learnerCell.isHeard learnerCell.possible learnerRule.holdOrDecide learnerRule.addVoter learnerRule.countVote
     learnerTables.isAllowed learner.place learner.rule learner.learner learner.learnerStep learner.answerOfCell learner.answerAt learner.answerFor learner.answered
     deliver holes.decidedEndFrom holes.isHole holes.firstHoleFrom holes.findHole holes.answered header marked sameSettings
     cellBytes cellIn cellsBytes roundsOf setsOf valuesOf savedTable save readSaved
@@ -85,6 +85,7 @@ computed = (
     value-answered = refl;
     not-yet-answered = refl;
     hole-found = refl;
+    voted-hole-found = refl;
     no-hole-found = refl;
     table-saved = refl;
     table-read = refl;

@@ -173,8 +173,10 @@ pub record WrittenOut : Type 0 where
   pub vote-decides : learnerStep (settings 3 2) vote heardOf0 ≡ outcome 105 (lent vote decided)
   pub value-answered : answered (theValue 7 8) (answerFor (settings 3 2) (theInstance 1) decided) ≡ outcome 106 (theValue 0x0102030405060708 0x090a0b0c0d0e0f10)
   pub not-yet-answered : answered (theValue 7 8) (answerFor (settings 3 2) (theInstance 1) heard) ≡ outcome 107 (theValue 7 8)
+  -- below a decided instance, and with one vote; without a vote there is none
   pub hole-found : holes.answered 9 (holes.findHole (settings 3 2) decided) ≡ outcome 106 0
-  pub no-hole-found : holes.answered 9 (holes.findHole (settings 3 2) heard) ≡ outcome 108 9
+  pub voted-hole-found : holes.answered 9 (holes.findHole (settings 3 2) heard) ≡ outcome 106 1
+  pub no-hole-found : holes.answered 9 (holes.findHole (settings 3 2) unheard) ≡ outcome 108 9
   pub table-saved : save (settings 3 2) (replicate 50 0) heard ≡ outcome 106 (lent saved heard)
   pub table-read : readSaved (settings 3 2) saved unheard ≡ outcome 106 (lent saved heard)
   -- the fields of packets, there and back

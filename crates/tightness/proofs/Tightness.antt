@@ -174,6 +174,7 @@ every-call = record {
   of-backup-frame = (λ _ _ _ _ _ _. seen (λ o. o .answer), λ _ _ _ _ _ _. seen (λ o. (o .left .packet, backupColumns (o .left .tables))));
   of-learner-fresh-cell = λ _ _ _ _ _ _. equal;
   of-is-decided = λ _ _ _ _ _ _. equal;
+  of-has-vote = λ _ _ _ _ _ _. equal;
   of-value-of = λ _ _ _ _ _ _. equal;
   of-learner-is-possible = λ _ _ _ _ _ _. equal;
   of-with-voter = λ _ _ _ _ _ _. equal;

@@ -89,6 +89,7 @@ use Rattle.backup.proofs.myrthakel_backup_step.Reads as backup-step
 use Rattle.backup_port.proofs.myrthakel_backup_frame.Reads as backup-frame
 use Rattle.learner_cell.proofs.fresh_cell.Reads as learner-fresh-cell
 use Rattle.learner_cell.proofs.is_decided.Reads as is-decided
+use Rattle.learner_cell.proofs.has_vote.Reads as has-vote
 use Rattle.learner_cell.proofs.value_of.Reads as value-of
 use Rattle.learner_cell.proofs.is_possible.Reads as learner-is-possible
 use Rattle.learner_cell.proofs.with_voter.Reads as with-voter
@@ -260,6 +261,7 @@ pub record EveryCall : Type 0 where
   -- learner_cell
   pub of-learner-fresh-cell : OneAnswer learner-fresh-cell.Learnt
   pub of-is-decided : OneAnswer is-decided.Learnt
+  pub of-has-vote : OneAnswer has-vote.Learnt
   pub of-value-of : OneAnswer value-of.Learnt
   pub of-learner-is-possible : OneAnswer learner-is-possible.Learnt
   pub of-with-voter : OneAnswer with-voter.Learnt
