@@ -1,5 +1,5 @@
--- The starred cases, those of frames, the orders of refusal and the calls that are written out hold: each is computed from the definitions, all with one
--- list of them.
+-- The starred cases, those of frames and of holes, the orders of refusal and the calls that are written out hold: each is computed from the definitions, all
+-- with one list of them.
 -- Assumes nothing.
 use mathlib.Core.Path.{refl}
 use lib.Count.{ones}
@@ -45,10 +45,11 @@ use Rattle.learner_file.specs.File.{header, marked, sameSettings, cellBytes, ce
 use Rattle.learner_saved.specs.Saved.{savedTable, save, readSaved}
 use Rattle.proved_cases.specs.Cases.{cases, All}
 use Rattle.proved_cases.specs.Frames.{FrameCases}
+use Rattle.proved_cases.specs.Holes.{HoleCases}
 use Rattle.proved_cases.specs.Orders.{Orders}
 use Rattle.proved_cases.specs.WrittenOut.{WrittenOut}
 
-computed : WrittenOut × FrameCases × Orders × All cases
+computed : WrittenOut × FrameCases × HoleCases × Orders × All cases
 unfolding ones numberAt withNumberAt if_then_else_ need_or_then_ ownerOf ownedOr0 ownedNot0 rank atMost isVoteUpTo placed requestRow prepareRow promiseRow proposeRow voteRow tableRow
     keepsTable messageOf fieldsOf whenRequest whenPrepare whenPromise whenPropose whenVote fieldsIn readPacket packetWith packetOf packetWrite fieldsRead packetRead
     afterReading afterPlacing ruled ruleAt act step acceptorsAllowed instancesAllowed allowed majority bit hasMember withMember within reaches cellsFrom every
@@ -109,6 +110,22 @@ computed = (
     d-passes = refl;
     d-refused = refl;
   },
+  record {
+    all-fresh = refl;
+    one-vote-in-0 = refl;
+    two-decided-and-one-vote = refl;
+    untouched-below-a-vote = refl;
+    untouched-below-a-decided-one = refl;
+    untouched-before-a-vote = refl;
+    untouched-and-vote-below-a-decided-one = refl;
+    one-vote-in-the-last = refl;
+    all-decided = refl;
+    one-vote-of-one-cell = refl;
+    one-cell-decided = refl;
+    two-votes-of-five = refl;
+    three-votes-of-five = refl;
+    a-vote-for-null = refl;
+  },
   refl,
   (
     refl,
@@ -158,8 +175,11 @@ writtenOut = computed .0
 pub frame-cases : FrameCases
 frame-cases = computed .1
 
+pub hole-cases : HoleCases
+hole-cases = computed .2
+
 orders : Orders
-orders = computed .2
+orders = computed .3
 
 starred : All cases
-starred = computed .3
+starred = computed .4

@@ -1,4 +1,5 @@
 pub mod Cases
 pub mod Frames
+pub mod Holes
 pub mod Orders
 pub mod WrittenOut
