@@ -12,6 +12,7 @@ pub mod Refusals
 pub mod NotAllowed
 pub mod Agreement
 pub mod OtherRuns
+pub mod Evening
 pub mod Finding
 pub mod Computed
 pub mod Examples
