@@ -78,7 +78,7 @@ unfolding ones numberAt if_then_else_ need_or_then_ ownerOf ownedOr0 ownedNot0 r
     acceptorRule.possible acceptorRule.orderOf acceptorRule.obeying acceptorRule.obey acceptorTables.tablesAllowed acceptorTables.isAllowed acceptor.acceptor acceptor.acceptorStep
     backupCell.isFresh backupCell.phaseFits backupCell.isStarted backupCell.possible backupRule.nextRound backupRule.start backupRule.counting backupRule.chosen
     backupRule.whenMajority backupRule.takePromise backupTables.tablesAllowed backupTables.isAllowed backup.backup backup.backupStep backup.backupStart
-    learnerCell.isDecided learnerCell.valueOf learnerCell.isFresh learnerCell.isHeard learnerCell.possible learnerRule.holdOrDecide learnerRule.addVoter learnerRule.countVote
+    learnerCell.isDecided learnerCell.hasVote learnerCell.valueOf learnerCell.isFresh learnerCell.isHeard learnerCell.possible learnerRule.holdOrDecide learnerRule.addVoter learnerRule.countVote
     learnerTables.isAllowed learner.place learner.rule learner.learner learner.learnerStep learner.answerOfCell learner.answerAt learner.answerFor
     cellsFrom every delivered holes.decidedEndFrom holes.isHole holes.firstHoleFrom holes.findHole
 both = (
@@ -99,6 +99,14 @@ both = (
     splitting-plays = refl;
     the-other-said = refl;
     one-vote = vote-found 0 first (theRound 0) v (split .packets) refl refl;
+    scanning-plays = refl;
+    the-last-hole = refl;
+    keeping-plays = refl;
+    none-when-kept = refl;
+    three-delivered = refl;
+    giving-up-plays = refl;
+    none-when-given-up = refl;
+    null-delivered = refl;
     three-of-five-plays = refl;
     five-said = refl;
     four-of-seven-plays = refl;

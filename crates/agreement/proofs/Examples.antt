@@ -27,6 +27,7 @@ use Rattle.agreement.specs.Agreement.{Agreed}
 use Rattle.agreement.specs.Examples.{Row, primary-gets, primary-gets-by-reference, acceptor-gets, backup-starts, backup-gets, learner-gets, zeros, after, answers, wasSent}
 use Rattle.agreement.specs.Examples.{readsRequest, mayHand, isHanded, played, plays, three, first, v, u, deciding, takingOver, early, taken, leavingAHole}
 use Rattle.agreement.specs.Examples.{repairing, holed, repaired, splitting, split, five, seven, threeOfFive, fourOfSeven, ofFive, ofSeven}
+use Rattle.agreement.specs.Examples.{evening, scanning, keepingTheScan, givingUpTheScan, scanned, scanKept, scanGivenUp}
 use Rattle.agreement.proofs.Finding.{was-sent, two-votes}
 use Rattle.agreement.proofs.Computed.{computed}
 use Rattle.agreement.proofs.Agreement.{agreement}
@@ -112,6 +113,16 @@ one-vote-does-not-decide d =
     let same : v ≡ u = agreement three .decided-once split-run now first u other-decided .alone v d in
     let low : _≡_ {A = ℕ} 0x2a 0x2b = ap (λ (x : Value). x .low) same in
     omega arith
+
+-- The last hole of the evening, repaired in either way: runs as any other.
+pub scanned-run : Run (Call evening) evening scanned
+scanned-run = rows-run (freshBoxes 3) scanning now (computed .scanning-plays)
+
+pub kept-run : Run (Call evening) evening scanKept
+kept-run = rows-run scanned keepingTheScan scanned-run (computed .keeping-plays)
+
+pub given-up-run : Run (Call evening) evening scanGivenUp
+given-up-run = rows-run scanned givingUpTheScan scanned-run (computed .giving-up-plays)
 
 -- A value is decided by three of five, and by four of seven.
 pub five-decided : Decided five ofFive first v

@@ -1,6 +1,6 @@
 -- Runs, call by call: who is handed which message, as its packet's bytes, and what the call answers. In the first a value
 -- is decided and a backup takes over while old packets still travel; in the second a backup repairs a hole with the null value; in the third one vote is lost;
--- in the last two a majority of 5 and of 7 decides. The primary's record is lent as a slice, and once by reference.
+-- in the fourth the last scan of the evening has one vote, and a backup repairs it; in the last two a majority of 5 and of 7 decides. The primary's record is lent as a slice, and once by reference.
 -- Assumes nothing.
 use Prim.Native.Nat.{ℕ, _^_}
 use mathlib.Core.Path.{_≡_}
@@ -224,6 +224,73 @@ splitting =
 abbrev pub split : Boxes
 split = played three (freshBoxes 2) splitting
 
+-- ---- the last hole of the evening
+
+-- M = 3, N = 3.
+abbrev pub evening : Settings
+evening = record { acceptors = 3; instances = 3 }
+
+abbrev pub third : Instance
+third = theInstance 2
+
+abbrev pub last : Value
+last = theValue 0 0x2c
+
+-- Two scans are decided. The third one has the vote of acceptor 0 alone, and the learner hears it.
+abbrev pub scanning : List Row
+scanning =
+    primary-gets (Request 9 v) toAcceptors
+    ∷ acceptor-gets 0 (Propose first (theRound 0) v) toLearners
+    ∷ acceptor-gets 1 (Propose first (theRound 0) v) toLearners
+    ∷ learner-gets 0 (Vote 0 first (theRound 0) v) hold
+    ∷ learner-gets 0 (Vote 1 first (theRound 0) v) decided
+    ∷ primary-gets (Request 9 u) toAcceptors
+    ∷ acceptor-gets 1 (Propose second (theRound 0) u) toLearners
+    ∷ acceptor-gets 2 (Propose second (theRound 0) u) toLearners
+    ∷ learner-gets 0 (Vote 1 second (theRound 0) u) hold
+    ∷ learner-gets 0 (Vote 2 second (theRound 0) u) decided
+    ∷ primary-gets (Request 9 last) toAcceptors
+    ∷ acceptor-gets 0 (Propose third (theRound 0) last) toLearners
+    ∷ learner-gets 0 (Vote 0 third (theRound 0) last) hold
+    ∷ []
+
+-- Backup 1 repairs it. Where that acceptor promises, it proposes the value voted for,
+abbrev pub keepingTheScan : List Row
+keepingTheScan =
+    backup-starts 1 third 0 null toAcceptors
+    ∷ acceptor-gets 0 (Prepare third (theRound 1)) toLeader
+    ∷ acceptor-gets 1 (Prepare third (theRound 1)) toLeader
+    ∷ backup-gets 1 (Promise 1 third (theRound 1) none null) hold
+    ∷ backup-gets 1 (Promise 0 third (theRound 1) (theRound 0) last) toAcceptors
+    ∷ acceptor-gets 0 (Propose third (theRound 1) last) toLearners
+    ∷ acceptor-gets 1 (Propose third (theRound 1) last) toLearners
+    ∷ learner-gets 0 (Vote 0 third (theRound 1) last) hold
+    ∷ learner-gets 0 (Vote 1 third (theRound 1) last) decided
+    ∷ []
+
+-- and where it does not, null.
+abbrev pub givingUpTheScan : List Row
+givingUpTheScan =
+    backup-starts 1 third 0 null toAcceptors
+    ∷ acceptor-gets 1 (Prepare third (theRound 1)) toLeader
+    ∷ acceptor-gets 2 (Prepare third (theRound 1)) toLeader
+    ∷ backup-gets 1 (Promise 1 third (theRound 1) none null) hold
+    ∷ backup-gets 1 (Promise 2 third (theRound 1) none null) toAcceptors
+    ∷ acceptor-gets 1 (Propose third (theRound 1) null) toLearners
+    ∷ acceptor-gets 2 (Propose third (theRound 1) null) toLearners
+    ∷ learner-gets 0 (Vote 1 third (theRound 1) null) hold
+    ∷ learner-gets 0 (Vote 2 third (theRound 1) null) decided
+    ∷ []
+
+abbrev pub scanned : Boxes
+scanned = played evening (freshBoxes 3) scanning
+
+abbrev pub scanKept : Boxes
+scanKept = played evening scanned keepingTheScan
+
+abbrev pub scanGivenUp : Boxes
+scanGivenUp = played evening scanned givingUpTheScan
+
 -- ---- five acceptors, and seven
 
 abbrev pub five : Settings
@@ -291,6 +358,14 @@ pub record Computed : Type 0 where
   pub splitting-plays : plays three (freshBoxes 2) splitting ≡ true
   pub the-other-said : said three split 0 first ≡ says u
   pub one-vote : VoteSent (split .packets) 0 first (theRound 0) v
+  pub scanning-plays : plays evening (freshBoxes 3) scanning ≡ true
+  pub the-last-hole : findHole evening (scanned .learner 0) ≡ holes.Found third
+  pub keeping-plays : plays evening scanned keepingTheScan ≡ true
+  pub none-when-kept : findHole evening (scanKept .learner 0) ≡ holes.NoHole
+  pub three-delivered : deliveredBy evening scanKept 0 ≡ v ∷ u ∷ last ∷ []
+  pub giving-up-plays : plays evening scanned givingUpTheScan ≡ true
+  pub none-when-given-up : findHole evening (scanGivenUp .learner 0) ≡ holes.NoHole
+  pub null-delivered : deliveredBy evening scanGivenUp 0 ≡ v ∷ u ∷ null ∷ []
   pub three-of-five-plays : plays five (freshBoxes 1) threeOfFive ≡ true
   pub five-said : said five ofFive 0 first ≡ says v
   pub four-of-seven-plays : plays seven (freshBoxes 1) fourOfSeven ≡ true
