@@ -236,8 +236,9 @@ uint32_t myrthakel_learner_deliver(uint32_t acceptors, uint32_t instances,
                                    uint32_t *count);
 
 /*
- * The first hole, an undecided instance below the highest decided one: done, with its number in the one lent, or no hole. Only a hole that is found
- * is written over it. Looks at every cell. Refusals: 7, 17.
+ * The first hole, an undecided instance below the highest decided one or with a vote in its set: done, with its number in the one lent, or no hole. Only a
+ * hole that is found is written over it. A hole may be a scan that is still on its way: a repair is safe at any time, and a second's patience saves it.
+ * Looks at every cell. Refusals: 7, 17.
  */
 uint32_t myrthakel_learner_first_hole(uint32_t acceptors, uint32_t instances,
                                       const uint32_t *rounds, size_t rounds_length,

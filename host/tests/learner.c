@@ -87,7 +87,7 @@ static void delivery_cases(void)
     expect(first_hole(&l, &hole) == MYRTHAKEL_NO_HOLE && hole == 99, "and no hole");
     decide(&l, 0, 0x2a);
     decide(&l, 1, 0);
-    expect(first_hole(&l, &hole) == MYRTHAKEL_NO_HOLE && hole == 99, "undecided instances with none decided above are no holes");
+    expect(first_hole(&l, &hole) == MYRTHAKEL_NO_HOLE && hole == 99, "untouched instances with none decided above are no holes");
     decide(&l, 3, 0x2b);
     memset(wanted, 0, 32);
     wanted[15] = 0x2a;
@@ -106,6 +106,53 @@ static void delivery_cases(void)
     expect(deliver(&l, buffer, 16 * N, &count) == MYRTHAKEL_IMPOSSIBLE_CELL && count == 99, "an impossible cell past the list is seen by delivery");
     expect(first_hole(&l, &hole) == MYRTHAKEL_IMPOSSIBLE_CELL && hole == 99, "and by the walk for holes");
     expect(myrthakel_learner_deliver(M, N, l.rounds, N, l.sets, N - 1, l.values, 2 * N, buffer, 1, &count) == MYRTHAKEL_NOT_ALLOWED, "a table of another size is refused before the buffer");
+}
+
+/* Cells in words and by their sets; one with a vote is of round 0. Where there is no hole, the number lent stays as it was. */
+enum { AS_LENT = 99 };
+
+typedef struct {
+    const char *cells;
+    uint32_t acceptors, instances;
+    uint8_t sets[N], value;
+    uint32_t first_hole;
+} hole_row;
+
+static const hole_row hole_rows[] = {
+    {"all fresh", M, N, {0}, 0x2a, AS_LENT},
+    {"1 vote in 0", M, N, {1}, 0x2a, 0},
+    {"0 and 1 decided, one vote in 2", M, N, {3, 3, 1}, 0x2a, 2},
+    {"5 untouched, one vote in 6, nothing decided", M, N, {0, 0, 0, 0, 0, 0, 1}, 0x2a, 6},
+    {"5 untouched, 6 decided", M, N, {0, 0, 0, 0, 0, 0, 3}, 0x2a, 0},
+    {"5 untouched, 0 to 4 and 6 decided", M, N, {3, 3, 3, 3, 3, 0, 3}, 0x2a, 5},
+    {"0 and 2 decided, 1 untouched, one vote in 3", M, N, {3, 0, 3, 1}, 0x2a, 1},
+    {"0 untouched, one vote in 1, 3 decided", M, N, {0, 1, 0, 3}, 0x2a, 0},
+    {"all but 7 decided, one vote in 7", M, N, {3, 3, 3, 3, 3, 3, 3, 1}, 0x2a, 7},
+    {"all decided", M, N, {3, 3, 3, 3, 3, 3, 3, 3}, 0x2a, AS_LENT},
+    {"N = 1, one vote", M, 1, {1}, 0x2a, 0},
+    {"N = 1, decided", M, 1, {3}, 0x2a, AS_LENT},
+    {"M = 5, two votes in 0", 5, N, {3}, 0x2a, 0},
+    {"M = 5, three votes in 0", 5, N, {7}, 0x2a, AS_LENT},
+    {"a vote for null, one of three, in 0", M, N, {1}, 0, 0},
+};
+
+static void hole_cases(void)
+{
+    for (size_t i = 0; i < sizeof hole_rows / sizeof *hole_rows; i++) {
+        const hole_row *row = &hole_rows[i];
+        const uint32_t instances = row->instances;
+        uint32_t lent = AS_LENT;
+        learner l;
+        make_unheard(&l);
+        for (uint32_t cell = 0; cell < instances; cell++)
+            if (row->sets[cell] != 0) {
+                l.rounds[cell] = 0;
+                l.sets[cell] = row->sets[cell];
+                l.values[2 * cell + 1] = row->value;
+            }
+        uint32_t answered = myrthakel_learner_first_hole(row->acceptors, instances, l.rounds, instances, l.sets, instances, l.values, 2 * instances, &lent);
+        expect(answered == (row->first_hole == AS_LENT ? MYRTHAKEL_NO_HOLE : MYRTHAKEL_DONE) && lent == row->first_hole, row->cells);
+    }
 }
 
 enum { SAVED = MYRTHAKEL_SAVED_LENGTH(N) };
@@ -163,6 +210,7 @@ int main(void)
 {
     vote_cases();
     delivery_cases();
+    hole_cases();
     saved_cases();
     return told();
 }

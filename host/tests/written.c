@@ -154,8 +154,9 @@ static void learner_cases(void)
     expect(myrthakel_learner_step(3, 2, vote, 36, l.rounds, 2, l.sets, 2, l.values, 4) == 105 && is_learner(&l, &decided), "a vote decides");
     answer_is(&decided, 106, HALVES, "a decided value is answered");
     answer_is(&heard, 107, 7, 8, "not yet is answered");
-    hole_is(&decided, 106, 0, "a hole is found");
-    hole_is(&heard, 108, 9, "no hole is found");
+    hole_is(&decided, 106, 0, "a hole is found below a decided instance");
+    hole_is(&heard, 106, 1, "a hole is found that has one vote");
+    hole_is(&unheard, 108, 9, "no hole is found");
     l = unheard;
     expect(myrthakel_learner_read_saved(3, 2, saved, 50, l.rounds, 2, l.sets, 2, l.values, 4) == 106 && is_learner(&l, &heard), "and these bytes are read as that table");
 }
