@@ -18,6 +18,9 @@ pub const KIND_TAKEN: &str = "each kind taken";
 pub const KIND_BROKEN: &str = "each kind refused by 5";
 pub const SWITCH_FAR: &str = "each kind with its switch number and 65,536";
 pub const KIND_FAR: &str = "each kind and 256";
+pub const GAP: &str = "a hole below a decided one";
+pub const LAST_HOLE: &str = "a hole with a vote and none decided above";
+pub const UNTOUCHED: &str = "no hole where decided ones are followed by untouched ones";
 pub const FRAME_LENGTH: &str = "each length up to 100";
 pub const FLIPPED_BIT: &str = "each bit from byte 12 on flipped";
 pub const HEADER_FAULT: &str = "each reason of 22 alone, sums right";
@@ -241,11 +244,22 @@ pub fn learner_deliver(comparison: &mut Comparison, input: LearnerDeliver) -> Le
     after
 }
 
+fn saw_hole(comparison: &mut Comparison, answer: u32, settings: Settings, sets: &[u8], hole: usize) {
+    let decided = |set: &u8| 2 * set.count_ones() > settings.acceptors;
+    match answer {
+        DONE if sets[hole + 1..].iter().any(decided) => comparison.saw(GAP, 0),
+        DONE => comparison.saw(LAST_HOLE, 0),
+        NO_HOLE if decided(&sets[0]) && sets.ends_with(&[0]) => comparison.saw(UNTOUCHED, 0),
+        _ => {}
+    }
+}
+
 pub fn learner_first_hole(comparison: &mut Comparison, input: LearnerFirstHole) -> LearnerFirstHole {
     let archive = |lent: &mut LearnerFirstHole| calls::learner_first_hole(lent.0, &mut lent.1, &mut lent.2);
     let (answer, after) = comparison.compare(&input, archive, |lent| model::learner_first_hole(lent.0, &lent.1, &mut lent.2));
     comparison.saw(M, input.0.acceptors);
     saw_learner_cell(comparison, answer, &input.1, 0);
+    saw_hole(comparison, answer, input.0, &input.1.sets, after.2 as usize);
     after
 }
 

@@ -47,6 +47,7 @@ const SETTINGS_KINDS: Kinds = &[(both::M, 256)];
 const ACCEPTOR_KINDS: Kinds = &[(both::M, 256), (both::PACKET_TOP_BIT, 1), (both::CELL_TOP_BIT, 1)];
 const BACKUP_KINDS: Kinds = &[(both::M, 256), (both::PHASE, 256), (both::SET, 256), (both::CELL_TOP_BIT, 1)];
 const LEARNER_KINDS: Kinds = &[(both::M, 256), (both::SET, 256), (both::CELL_TOP_BIT, 1)];
+const HOLE_KINDS: Kinds = &[(both::GAP, 1), (both::LAST_HOLE, 1), (both::UNTOUCHED, 1)];
 const SUM_KINDS: Kinds = &[(both::FRAME_LENGTH, 101), (both::IPV4_ZERO, 1), (both::UDP_ONES, 1), (both::SECOND_CARRY, 2)];
 const FRAME_KINDS: Kinds = &[(both::FLIPPED_BIT, 528), (both::HEADER_FAULT, 5), (both::UDP_FAULT, 2), (both::IPV4_ONES, 1), (both::UDP_ZERO, 1)];
 
@@ -112,7 +113,7 @@ const CALLS: &[Call] = &[
         sweep: sweeps::learner_deliver, scene: scenes::learner_deliver,
     },
     Call {
-        name: "learner_first_hole", share: 1, answers: &[7, 17, NO_HOLE, DONE], kinds: &[LEARNER_KINDS],
+        name: "learner_first_hole", share: 1, answers: &[7, 17, NO_HOLE, DONE], kinds: &[LEARNER_KINDS, HOLE_KINDS],
         sweep: sweeps::learner_first_hole, scene: scenes::learner_first_hole,
     },
     Call {

@@ -1,4 +1,5 @@
-//! The build paper in plain Rust, in its order. Written from the paper, not from the proved code, so that a slip of one is not a slip of both.
+//! The build paper in plain Rust, in its order, with the holes of its change request. Written from the papers, not from the proved code, so that a slip of one
+//! is not a slip of both.
 
 use crate::tables::*;
 
@@ -496,6 +497,7 @@ pub fn learner_deliver(settings: Settings, tables: &LearnerTables, buffer: &mut 
     Ok(DONE)
 }
 
+/// A hole is "an undecided instance below the highest decided one or with a vote in its set"; the first of either kind is answered.
 pub fn learner_first_hole(settings: Settings, tables: &LearnerTables, instance: &mut u32) -> Answer {
     if !learner_allowed(settings, tables) {
         return Err(7);
@@ -503,11 +505,12 @@ pub fn learner_first_hole(settings: Settings, tables: &LearnerTables, instance: 
     if !all_possible(settings, tables) {
         return Err(17);
     }
-    let decided = |cell: &usize| decided(settings, tables, *cell);
-    let highest = (0..settings.instances as usize).rev().find(decided);
-    match highest.and_then(|highest| (0..highest).find(|cell| !decided(cell))) {
+    let (decided, undecided): (Vec<u32>, Vec<u32>) = (0..settings.instances).partition(|cell| decided(settings, tables, *cell as usize));
+    let below_highest = undecided.iter().filter(|cell| decided.last().map_or(false, |highest| *cell < highest));
+    let with_a_vote = undecided.iter().filter(|cell| tables.sets[**cell as usize] != 0);
+    match below_highest.chain(with_a_vote).min() {
         Some(hole) => {
-            *instance = hole as u32;
+            *instance = *hole;
             Ok(DONE)
         }
         None => Ok(NO_HOLE),

@@ -1,4 +1,5 @@
-//! Runs of all players of one depot over the archives' calls, on a network that loses, doubles, delays and reorders; after every step, demand 3.
+//! Runs of all players of one depot over the archives' calls, on a network that loses, doubles, delays and reorders; after every step, demand 3. At the end
+//! every hole is repaired, and what a learner heard of is then delivered.
 //! Usage: simulate RUNS SEED. So many runs hand over packets, and as many hand over each packet in a frame with a header by chance, on a network that damages
 //! frames as well. The last line is 'N passed, M failed', in runs.
 
@@ -29,12 +30,14 @@ const BACKUPS: usize = 3;
 const LEARNERS: usize = 2;
 
 /// What a run had in it, so that runs in which nothing happens don't pass for a test.
-#[derive(Default)]
+#[derive(Clone, Copy, Default)]
 struct Seen {
     decision: bool,
     takeover: bool,
     null_repair: bool,
     kept: bool,
+    repaired: bool,
+    last_hole: bool,
     damage: bool,
 }
 
@@ -53,8 +56,12 @@ struct Run {
     votes: BTreeMap<(usize, u32, u128), u8>,
     decided: Vec<Option<u128>>,
     told: Vec<Vec<Option<u128>>>,
-    /// Instances that were a learner's first hole.
-    holes: Vec<Vec<bool>>,
+    /// Instances that a learner took a vote for.
+    heard: Vec<Vec<bool>>,
+    /// The first hole that each learner answered last.
+    holes: Vec<Option<usize>>,
+    /// Instances on which a backup was started with null when they were the first hole of learner 0.
+    filling: Vec<bool>,
     /// Rounds in which a backup proposed another value than its own.
     gave_way: Vec<(usize, u32)>,
     seen: Seen,
@@ -96,7 +103,9 @@ impl Run {
             votes: BTreeMap::new(),
             decided: vec![None; instances],
             told: vec![vec![None; instances]; LEARNERS],
-            holes: vec![vec![false; instances]; LEARNERS],
+            heard: vec![vec![false; instances]; LEARNERS],
+            holes: vec![None; LEARNERS],
+            filling: vec![false; instances],
             gave_way: Vec::new(),
             seen: Seen::default(),
         }
@@ -127,6 +136,7 @@ impl Run {
             }
             self.check()?;
         }
+        self.repair_all()?;
         self.check_saved()
     }
 
@@ -167,26 +177,95 @@ impl Run {
         self.hand_over(player, packet)
     }
 
-    /// Any backup on any instance, or on a hole with null; now and then one beyond N, a floor near the last round or a buffer of a wrong length.
+    /// Any backup on any instance, or with null on the first hole of learner 0; now and then one beyond N, a floor near the last round or a buffer of a wrong
+    /// length.
     fn take_over(&mut self) -> Result<(), String> {
         let backup = self.random.below(BACKUPS);
         let beyond = self.random.chance(3) as usize;
         let any = self.random.below(self.settings.instances as usize + beyond);
         let floor = if self.random.chance(3) { NONE - self.random.below(20) as u32 } else { self.random.below(12) as u32 };
         let any_value = if self.random.chance(20) { 0 } else { self.not_null() };
-        let (instance, value) = match self.holes[0].iter().position(|hole| *hole) {
+        let (instance, value) = match self.holes[0] {
             Some(hole) if self.random.chance(50) => (hole, 0),
             _ => (any, any_value),
         };
         let length = if self.random.chance(3) { 35 } else { 36 };
+        let answer = self.start(backup, Start { instance: instance as u32, floor, value }, length)?;
+        if answer == TO_ACCEPTORS && value == 0 && self.holes[0] == Some(instance) {
+            self.filling[instance] = true;
+        }
+        Ok(())
+    }
+
+    /// What a started backup writes to a buffer of this length travels to the acceptors.
+    fn start(&mut self, backup: usize, start: Start, length: usize) -> Result<u32, String> {
         let mut buffer = self.random.bytes(length);
-        let start = Start { instance: instance as u32, floor, value };
         let answer = calls::backup_start(self.settings, backup as u32 + 1, start, &mut buffer, &mut self.backups[backup]);
         if !matches!(answer, TO_ACCEPTORS | 1 | 8 | 16) {
             return Err(format!("start of backup {} {:x?} answered {}", backup + 1, start, answer));
         }
         self.send(answer, &buffer);
+        Ok(answer)
+    }
+
+    /// What operators do in the evening: the first hole of each learner is repaired, again and again, until it answers "none" or no round is left. What is
+    /// decided by that is not counted with what came about on the network.
+    fn repair_all(&mut self) -> Result<(), String> {
+        let before = self.seen;
+        let mut repairs = 0;
+        for learner in 0..LEARNERS {
+            repairs += self.repair_holes(learner)?;
+        }
+        let repaired = repairs > 0 && self.holes == [None; LEARNERS];
+        self.seen = Seen { repaired, last_hole: self.seen.last_hole, ..before };
         Ok(())
+    }
+
+    /// Answers how many of a learner's holes were repaired. Each repair decides one, so that there are not more than instances.
+    fn repair_holes(&mut self, learner: usize) -> Result<usize, String> {
+        let mut repairs = 0;
+        while let Some(hole) = self.holes[learner] {
+            let none_decided_above = self.told[learner][hole + 1..].iter().all(|answer| answer.is_none());
+            if !self.repair(hole)? {
+                break;
+            }
+            self.seen.last_hole |= repairs == 0 && none_decided_above;
+            repairs += 1;
+            if repairs > self.told[learner].len() {
+                return Err(format!("learner {} has had more repairs than instances", learner));
+            }
+        }
+        Ok(repairs)
+    }
+
+    /// All that a backup started on the hole sends for it arrives; what travelled before goes on to travel. Answers whether there was a round for it.
+    fn repair(&mut self, hole: usize) -> Result<bool, String> {
+        let older = std::mem::take(&mut self.travelling);
+        let started = self.start_above(hole)?;
+        while !self.travelling.is_empty() {
+            self.arrive(0, 0)?;
+            self.check()?;
+        }
+        self.travelling = older;
+        Ok(started)
+    }
+
+    /// Starts any backup with null above every round that a player holds for the instance, so that no acceptor refuses; answers whether one has such a round.
+    fn start_above(&mut self, instance: usize) -> Result<bool, String> {
+        let acceptors = self.acceptors.iter().map(|tables| &tables.rounds);
+        let backups = self.backups.iter().map(|tables| &tables.rounds);
+        let learners = self.learners.iter().map(|tables| &tables.rounds);
+        let held = acceptors.chain(backups).chain(learners).map(|rounds| rounds[instance]);
+        let floor = held.filter(|round| *round != NONE).max().unwrap_or(0);
+        let first = self.random.below(BACKUPS);
+        for turn in 0..BACKUPS {
+            match self.start((first + turn) % BACKUPS, Start { instance: instance as u32, floor, value: 0 }, 36)? {
+                TO_ACCEPTORS => return Ok(true),
+                16 => {}
+                refusal => return Err(format!("start on hole {} refused by {}", instance, refusal)),
+            }
+        }
+        Ok(false)
     }
 
     /// Breaks a packet sent earlier in a way that no kind sent by a player allows, and hands it to anyone.
@@ -241,6 +320,7 @@ impl Run {
         self.send(answer, &packet);
         match (player, answer) {
             (Player::Acceptor(own), TO_LEARNERS) => self.record_vote(own, fields(&mut packet)?)?,
+            (Player::Learner(index), HOLD | DECIDED) => self.heard[index][fields(&mut packet)?.instance as usize] = true,
             (Player::Backup(index), TO_ACCEPTORS) => {
                 let Fields { instance, round, value, .. } = fields(&mut packet)?;
                 if value != value_of(&self.backups[index].own_values, instance as usize) {
@@ -351,6 +431,7 @@ impl Run {
             let answers = self.answers(learner)?;
             lists.push(self.delivered(learner, &answers)?);
             self.check_hole(learner, &answers)?;
+            self.check_none(learner, lists[learner].len())?;
         }
         let shorter = lists[0].len().min(lists[1].len());
         if lists[0][..shorter] != lists[1][..shorter] {
@@ -376,7 +457,7 @@ impl Run {
                 return Err(format!("learner {} told {:x?} for instance {}, then {:x?}", learner, before, instance, answer));
             }
             self.told[learner][instance] = answer;
-            self.seen.null_repair |= answer == Some(0) && self.holes[learner][instance];
+            self.seen.null_repair |= answer == Some(0) && self.filling[instance];
             answers.push(answer);
         }
         Ok(answers)
@@ -396,9 +477,12 @@ impl Run {
         Ok(expected)
     }
 
+    /// Holes by what the learner answers and by the votes that it took, whatever its tables hold: an undecided instance below the highest decided one or with a
+    /// vote in its set.
     fn check_hole(&mut self, learner: usize, answers: &[Option<u128>]) -> Result<(), String> {
-        let end = answers.iter().rposition(|answer| answer.is_some()).unwrap_or(0);
-        let expected = answers[..end].iter().position(|answer| answer.is_none());
+        let heard = &self.heard[learner];
+        let below_decided = |instance: usize| answers[instance..].iter().any(|answer| answer.is_some());
+        let expected = (0..answers.len()).find(|instance| answers[*instance].is_none() && (below_decided(*instance) || heard[*instance]));
         let mut hole = NONE;
         let found = match calls::learner_first_hole(self.settings, &mut self.learners[learner], &mut hole) {
             DONE => Some(hole as usize),
@@ -406,12 +490,20 @@ impl Run {
             refusal => return Err(format!("holes refused by {}", refusal)),
         };
         if found != expected || found.is_none() && hole != NONE {
-            return Err(format!("first hole {:?} of {:x?}", found, answers));
+            return Err(format!("first hole {:?} of {:x?}, heard of {:?}", found, answers, heard));
         }
-        if let Some(hole) = found {
-            self.holes[learner][hole] = true;
-        }
+        self.holes[learner] = found;
         Ok(())
+    }
+
+    /// Where a learner answers "none", every instance that it heard a vote for is delivered.
+    fn check_none(&self, learner: usize, delivered: usize) -> Result<(), String> {
+        match self.heard[learner].iter().rposition(|heard| *heard) {
+            Some(last) if self.holes[learner].is_none() && delivered <= last => {
+                Err(format!("learner {} has no hole and heard of instance {}, but delivers {}", learner, last, delivered))
+            }
+            _ => Ok(()),
+        }
     }
 
     /// A saved table read into another learner's gives the same table, and saving changes none.
@@ -444,6 +536,7 @@ fn simulate(runs: u64, seed: u64, framed: bool) -> (u64, u64) {
     let mut seeds = Random::new(seed);
     let (mut passed, mut failed) = (0, 0);
     let mut seen = vec![("a decision", 0), ("a takeover that decided", 0), ("a hole repaired by null", 0), ("a decided value kept by a takeover", 0)];
+    seen.extend([("all holes repaired at the end", 0), ("a hole with none decided above as the first to be repaired", 0)]);
     if framed {
         seen.push(("a damaged frame", 0));
     }
@@ -460,7 +553,8 @@ fn simulate(runs: u64, seed: u64, framed: bool) -> (u64, u64) {
                 }
             }
         }
-        let had = [run.seen.decision, run.seen.takeover, run.seen.null_repair, run.seen.kept, run.seen.damage];
+        let Seen { decision, takeover, null_repair, kept, repaired, last_hole, damage } = run.seen;
+        let had = [decision, takeover, null_repair, kept, repaired, last_hole, damage];
         seen.iter_mut().zip(had).for_each(|((_, count), had)| *count += had as u64);
         if told.elapsed() >= Duration::from_secs(5) {
             eprintln!("simulate: {} of {} runs over {}", passed + failed, runs, over);
