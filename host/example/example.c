@@ -221,6 +221,9 @@ static void from_the_stop(void)
     heading("Backup 1 takes over by hand: the hole is filled with null");
     take_over(2, NULL_VALUE, NULL);
 
+    heading("The last hole of the evening");
+    ask("0: pass 1001, 1: pass 1002, 2: null, 3: pass 1004", "pass 1001, pass 1002, null, pass 1004", "instance 4");
+
     heading("Where a value may have been chosen, the backup finds it and keeps it");
     take_over(4, NULL_VALUE, "pass 1005");
 
