@@ -124,17 +124,22 @@ module _ (M N : ℕ) (t : Tables) where
   found-end : End M t 0 0 N end
   found-end = end-found M t 0 0 N (omega arith)
 
-  -- an undecided instance below the end is below the decided one that stands there
+  -- an undecided instance up to a decided one is below it, since it is another
+  pub under-decided : (number above : ℕ) → isDecided M (cellAt t number) ≡ false → isDecided M (cellAt t above) ≡ true → number ≤ above → above < N
+      → BelowDecided M N t number
+  under-decided number above undecided decided low inside = record {
+    above = above;
+    inside = inside;
+    below = here-or-elsewhere (λ k. isDecided M (cellAt t k) ≡ true → number ≤ k → number < k) number above (λ over _. absurd (false≢true (sym undecided ∙ over)))
+        (λ other _ up-to. omega (arith, other, up-to)) decided low;
+    decided = decided;
+  }
+
+  -- so one below the end is below the decided one that stands there
   below-end : (number : ℕ) → isDecided M (cellAt t number) ≡ false → number < end → BelowDecided M N t number
   below-end number undecided low =
       let top = found-end .last (omega (arith, low)) in
-      record {
-        above = top .0;
-        inside = omega (arith, found-end .most, top .1 .0);
-        below = here-or-elsewhere (λ k. isDecided M (cellAt t k) ≡ true → number ≤ k → number < k) number (top .0) (λ decided _. absurd (false≢true (sym undecided ∙ decided)))
-            (λ other _ least. omega (arith, other, least)) (top .1 .1) (omega (arith, low, top .1 .0));
-        decided = top .1 .1;
-      }
+      under-decided number (top .0) undecided (top .1 .1) (omega (arith, low, top .1 .0)) (omega (arith, found-end .most, top .1 .0))
 
   pub passes-hole : (number : ℕ) → number < N → isHole M end number (cellAt t number) ≡ true → HoleAt M N t number
   unfolding isHole
@@ -178,25 +183,31 @@ least-hole M N t = least-of M N t (firstHole M (cellsFrom (cellAt t) 0 N)) (firs
 -- ---- the call
 
 module _ (s : Settings) (t : Tables) where
-  hole-elim : (Q : Hole → Type 0) → Q (holes.Refused 7) → Q (holes.Refused 17) → Q (firstHole (s .acceptors) (cells s t)) → Q (findHole s t)
+  hole-elim : (Q : Hole → Type 0) → Q (holes.Refused 7) → Q (holes.Refused 17)
+      → (allPossible (s .acceptors) (cells s t) ≡ true → Q (firstHole (s .acceptors) (cells s t))) → Q (findHole s t)
   unfolding findHole
-  hole-elim Q seven seventeen walked = need-elim Q _ _ _ seven λ _. need-elim Q _ _ _ seventeen λ _. walked
+  hole-elim Q seven seventeen walked = need-elim Q _ _ _ seven λ _. need-elim Q _ _ _ seventeen walked
 
   -- where there is none, every cell is possible, and the walk found none
   abbrev Walked : Type 0
   Walked = (allPossible (s .acceptors) (cells s t) ≡ true) × (firstHole (s .acceptors) (cells s t) ≡ holes.NoHole)
 
   pub none-walked : findHole s t ≡ holes.NoHole → Walked
-  unfolding findHole answered
-  none-walked =
-      need-elim (λ h. h ≡ holes.NoHole → Walked) _ _ _ (λ none. absurd (omega (arith, ap (λ h. answered 0 h .answer) none))) λ _.
-      need-elim (λ h. h ≡ holes.NoHole → Walked) _ _ _ (λ none. absurd (omega (arith, ap (λ h. answered 0 h .answer) none))) λ possible none. (possible, none)
+  none-walked = hole-elim (λ h. h ≡ holes.NoHole → Walked) refused refused λ possible none. (possible, none)
+    where
+      told : Hole → Bool
+      told (holes.Refused number) = true
+      told (holes.Found i) = false
+      told holes.NoHole = false
+
+      refused : {number : ℕ} → holes.Refused number ≡ holes.NoHole → Walked
+      refused none = absurd (false≢true (sym (ap told none)))
 
   pub hole-numbers : (before : ℕ) → OneOf (answered before (findHole s t) .answer) numbers
   unfolding answered
   hole-numbers before =
       hole-elim (λ h. OneOf (answered before h .answer) numbers) first (later first)
-      (walked (firstHole (s .acceptors) (cells s t)) (least-hole (s .acceptors) (s .instances) t))
+      λ _. walked (firstHole (s .acceptors) (cells s t)) (least-hole (s .acceptors) (s .instances) t)
     where
       walked : (h : Hole) → Least (s .acceptors) (s .instances) t h → OneOf (answered before h .answer) numbers
       walked (holes.Found i) _ = later (later first)
@@ -223,7 +234,7 @@ module _ (s : Settings) (t : Tables) where
   hole-told before =
       hole-elim (Told before) (λ other. absurd (omega (arith, other)), λ other. absurd (omega (arith, other)))
       (λ other. absurd (omega (arith, other)), λ other. absurd (omega (arith, other)))
-      (walked (firstHole (s .acceptors) (cells s t)) (least-hole (s .acceptors) (s .instances) t))
+      λ _. walked (firstHole (s .acceptors) (cells s t)) (least-hole (s .acceptors) (s .instances) t)
     where
       walked : (h : Hole) → Least (s .acceptors) (s .instances) t h → Told before h
       walked (holes.Found i) _ = (λ _. refl, λ other. absurd (omega (arith, other)))

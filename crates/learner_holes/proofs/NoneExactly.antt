@@ -1,21 +1,20 @@
 -- What follows of the smallest hole: only "none" changes, since a hole below a gap is below the decided instance above that gap, and so a gap itself; and "none" is
 -- said exactly where all that is decided or has a vote is decided, with all before it.
 -- Assumes nothing.
-use Prim.Native.Nat.{ℕ, _≤_, _<_}
+use Prim.Native.Nat.{ℕ, _≤_}
 use mathlib.Core.Path.{_≡_, refl, sym, _∙_, subst}
 use mathlib.Core.Bool.{Bool, true, false, false≢true}
 use mathlib.Core.Logic.{⊎-elim, inl, inr}
 use native.Mathlib.Omega.{arith}
 use Rattle.basics.proofs.Ladder.{by-test, or-left, or-right, or-cases}
 use Rattle.columns.specs.Walks.{cellsFrom}
-use Rattle.columns.proofs.Walks.{here-or-elsewhere}
 use Rattle.learner_cell.specs.Cell.{isDecided, hasVote}
 use Rattle.learner_tables.specs.Tables.{Tables, cellAt}
 use Rattle.learner_holes.specs.declared.Hole.{Hole}
 use Rattle.learner_holes.specs.declared.Hole.the-variants as holes
 use Rattle.learner_holes.specs.Holes.{firstHole}
 use Rattle.learner_holes.specs.Promises.{BelowDecided, HoleAt, Least, Gap, SmallestGap, OnlyNoneChanges, AllDecided, NoneExactly}
-use Rattle.learner_holes.proofs.LeastHole.{least-hole}
+use Rattle.learner_holes.proofs.LeastHole.{under-decided, least-hole}
 
 -- ---- where there is a gap
 
@@ -51,7 +50,7 @@ module _ (M N : ℕ) (t : Tables) where
   none-decided : ((other : ℕ) → HoleAt M N t other → ⊥) → AllDecided M N t
   none-decided none number inside reached earlier low =
       by-test (decided earlier) (λ over. over)
-      (λ undecided. absurd (none earlier (record { inside = omega (arith, inside, low); undecided = undecided; because = inl (under undecided) })))
+      (λ undecided. absurd (none earlier (gap-hole M N t earlier (undecided, under-decided M N t earlier number undecided itself low inside))))
     where
       itself : decided number ≡ true
       itself =
@@ -59,22 +58,14 @@ module _ (M N : ℕ) (t : Tables) where
           (λ vote. by-test (decided number) (λ over. over) (λ undecided. absurd (none number (record { inside = inside; undecided = undecided; because = inr vote }))))
           (or-cases (decided number) (hasVote (cellAt t number)) reached)
 
-      under : decided earlier ≡ false → BelowDecided M N t earlier
-      under undecided = record {
-        above = number;
-        inside = inside;
-        below = here-or-elsewhere (λ k. decided k ≡ false → k ≤ number → k < number) number earlier (λ open-still _. absurd (false≢true (sym open-still ∙ itself)))
-            (λ other _ least. omega (arith, other, least)) undecided low;
-        decided = itself;
-      }
+  -- a hole would be decided
+  hole-decided : AllDecided M N t → (number : ℕ) → HoleAt M N t number → decided number ≡ true
+  hole-decided all number h =
+      ⊎-elim (λ (b : BelowDecided M N t number). all (b .above) (b .inside) (or-left (hasVote (cellAt t (b .above))) (b .decided)) number (omega (arith, b .below)))
+      (λ vote. all number (h .inside) (or-right (decided number) vote) number (omega arith)) (h .because)
 
   decided-none : AllDecided M N t → (h : Hole) → Least M N t h → h ≡ holes.NoHole
-  decided-none all (holes.Found i) least =
-      let h = least .0 in
-      let over : decided (i .0) ≡ true =
-      ⊎-elim (λ (b : BelowDecided M N t (i .0)). all (b .above) (b .inside) (or-left (hasVote (cellAt t (b .above))) (b .decided)) (i .0) (omega (arith, b .below)))
-      (λ vote. all (i .0) (h .inside) (or-right (decided (i .0)) vote) (i .0) (omega arith)) (h .because) in
-      absurd (false≢true (sym (h .undecided) ∙ over))
+  decided-none all (holes.Found i) least = absurd (false≢true (sym (least .0 .undecided) ∙ hole-decided all (i .0) (least .0)))
   decided-none all holes.NoHole none = refl
   decided-none all (holes.Refused number) impossible = absurd impossible
 
