@@ -75,39 +75,40 @@ fn requests_for_one_instance() {
     );
 }
 
-// By M and the sets of cells 0 to 7, a digit each: a vote is 1, two are 3, three are 7.
+// By M, the sets of cells 0 to 7, a digit each, and the value voted for: a vote is 1, two are 3, three are 7.
 fn first_holes() {
     // all fresh
-    print_hole_of(3, 0x0000_0000);
+    print_hole_of(3, 0x0000_0000, 42);
     // 1 vote in 0
-    print_hole_of(3, 0x1000_0000);
+    print_hole_of(3, 0x1000_0000, 42);
     // 0 and 1 decided, one vote in 2
-    print_hole_of(3, 0x3310_0000);
+    print_hole_of(3, 0x3310_0000, 42);
     // 5 untouched, one vote in 6, nothing decided; 6 decided, and those before 5
-    print_hole_of(3, 0x0000_0010);
-    print_hole_of(3, 0x3333_3030);
+    print_hole_of(3, 0x0000_0010, 42);
+    print_hole_of(3, 0x3333_3030, 42);
     // 0 and 2 decided, 1 untouched, one vote in 3
-    print_hole_of(3, 0x3031_0000);
+    print_hole_of(3, 0x3031_0000, 42);
     // 0 untouched, one vote in 1, 3 decided
-    print_hole_of(3, 0x0103_0000);
+    print_hole_of(3, 0x0103_0000, 42);
     // all but 7 decided, one vote in 7
-    print_hole_of(3, 0x3333_3331);
+    print_hole_of(3, 0x3333_3331, 42);
     // all decided
-    print_hole_of(3, 0x3333_3333);
-    // M = 5, two votes in 0; three votes in 0
-    print_hole_of(5, 0x3000_0000);
-    print_hole_of(5, 0x7000_0000);
-    // N = 1, one vote; decided; one vote for null
+    print_hole_of(3, 0x3333_3333, 42);
+    // N = 1, one vote; decided
     print_hole_of_one(1, 42);
     print_hole_of_one(3, 42);
-    print_hole_of_one(1, 0);
+    // M = 5, two votes in 0; three votes in 0
+    print_hole_of(5, 0x3000_0000, 42);
+    print_hole_of(5, 0x7000_0000, 42);
+    // a vote for null, one of three, in 0
+    print_hole_of(3, 0x1000_0000, 0);
 }
 
-fn print_hole_of(acceptors: u32, digits: u32) {
+fn print_hole_of(acceptors: u32, digits: u32, low: u64) {
     let mut rounds = [0u32; 8];
     let mut sets = [0u8; 8];
     let mut values = [0u64; 16];
-    store_cells(&mut rounds, &mut sets, &mut values, digits);
+    store_cells(&mut rounds, &mut sets, &mut values, digits, low);
     let settings = Settings {
         acceptors,
         instances: 8,
@@ -115,6 +116,7 @@ fn print_hole_of(acceptors: u32, digits: u32) {
     io::write_all(STDOUT_FILENO, b"sets ");
     io::print_hex(STDOUT_FILENO, digits as u64, 8);
     print_hole(
+        low,
         acceptors,
         learner_holes::find_hole(settings, &rounds, &sets, &values),
     );
@@ -127,15 +129,16 @@ fn print_hole_of_one(set: u8, low: u64) {
     };
     io::write_all(STDOUT_FILENO, b"one set ");
     io::print_hex(STDOUT_FILENO, set as u64, 1);
-    io::write_all(STDOUT_FILENO, b" for value ");
-    io::print_decimal(STDOUT_FILENO, low);
     print_hole(
+        low,
         3,
         learner_holes::find_hole(settings, &[0], &[set], &[0, low]),
     );
 }
 
-fn print_hole(acceptors: u32, hole: Hole) {
+fn print_hole(low: u64, acceptors: u32, hole: Hole) {
+    io::write_all(STDOUT_FILENO, b" for value ");
+    io::print_decimal(STDOUT_FILENO, low);
     io::write_all(STDOUT_FILENO, b", M = ");
     io::print_decimal(STDOUT_FILENO, acceptors as u64);
     match hole {
@@ -148,23 +151,23 @@ fn print_hole(acceptors: u32, hole: Hole) {
 }
 
 // The last digit is cell 7's.
-fn store_cells(rounds: &mut [u32], sets: &mut [u8], values: &mut [u64], digits: u32) {
+fn store_cells(rounds: &mut [u32], sets: &mut [u8], values: &mut [u64], digits: u32, low: u64) {
     let mut left = digits;
     for place in 0..8 {
-        let cell = cell_of((left % 16) as u8);
+        let cell = cell_of((left % 16) as u8, low);
         learner_tables::store_cell(rounds, sets, values, 7 - place, cell);
         left /= 16;
     }
 }
 
-// Votes of round 0 for a value ending in 2a, or none.
-fn cell_of(set: u8) -> Cell {
+// Votes of round 0, or none.
+fn cell_of(set: u8, low: u64) -> Cell {
     if set == 0 {
         return learner_cell::fresh_cell();
     }
     Cell {
         round: Round(0),
         set,
-        value: Value { high: 0, low: 42 },
+        value: Value { high: 0, low },
     }
 }

@@ -9,11 +9,11 @@ use Rattle.cases.proofs.store_cells.Statement.{statement}
 use Rattle.cases.proofs.store_cells.Tie as tie
 
 abbrev Inv-loop : tie.InvT-loop
-Inv-loop rounds₀ sets₀ values₀ digits left₀ place₀ rounds sets values left place =
+Inv-loop rounds₀ sets₀ values₀ digits low left₀ place₀ rounds sets values left place =
     (place ≤ 8) × ((length rounds ≡ length rounds₀) × ((length sets ≡ length sets₀) × (length values ≡ length values₀)))
 
 abbrev μ-loop : tie.MeasureT-loop
-μ-loop rounds₀ sets₀ values₀ digits left₀ place₀ rounds sets values left place = 8 - place
+μ-loop rounds₀ sets₀ values₀ digits low left₀ place₀ rounds sets values left place = 8 - place
 
 loop-holds : tie.Need-loop-holds Inv-loop μ-loop
 loop-holds c = (omega arith, (refl, (refl, refl)))
