@@ -1,4 +1,4 @@
--- What an operator has who asked a learner for holes until there was none, and so may go home: every scan that the learner heard a vote for is in the
+-- What an operator has who asked a learner for holes until there was none, and so may go home: every instance that the learner has a vote for is in the
 -- delivered list. Of a learner in a run that list is `deliveredBy`.
 -- Assumes nothing.
 use Prim.Native.Nat.{ℕ, _≤_, _<_}

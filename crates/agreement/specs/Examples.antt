@@ -1,6 +1,7 @@
 -- Runs, call by call: who is handed which message, as its packet's bytes, and what the call answers. In the first a value
 -- is decided and a backup takes over while old packets still travel; in the second a backup repairs a hole with the null value; in the third one vote is lost;
--- in the fourth the last scan of the evening has one vote, and a backup repairs it; in the last two a majority of 5 and of 7 decides. The primary's record is lent as a slice, and once by reference.
+-- in the fourth the last scan of the evening has one vote, and a backup repairs it; in the last two a majority of 5 and of 7 decides. The primary's record is
+-- lent as a slice, and once by reference.
 -- Assumes nothing.
 use Prim.Native.Nat.{ℕ, _^_}
 use mathlib.Core.Path.{_≡_}

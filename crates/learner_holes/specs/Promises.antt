@@ -1,5 +1,5 @@
 -- What is promised of holes: the answer is the smallest one, "none" is said where there is none, and the call tells just that. An operator who is told "none"
--- has every instance decided that a vote was heard for.
+-- has every instance decided that has a vote.
 -- Assumes nothing.
 use Prim.Native.Nat.{ℕ, _≤_, _<_}
 use mathlib.Core.Path.{_≡_}
