@@ -195,13 +195,13 @@ module _ (s : Settings) (t : Tables) where
   pub none-walked : findHole s t ≡ holes.NoHole → Walked
   none-walked = hole-elim (λ h. h ≡ holes.NoHole → Walked) refused refused λ possible none. (possible, none)
     where
-      told : Hole → Bool
-      told (holes.Refused number) = true
-      told (holes.Found i) = false
-      told holes.NoHole = false
+      is-refused : Hole → Bool
+      is-refused (holes.Found i) = false
+      is-refused holes.NoHole = false
+      is-refused (holes.Refused number) = true
 
       refused : {number : ℕ} → holes.Refused number ≡ holes.NoHole → Walked
-      refused none = absurd (false≢true (sym (ap told none)))
+      refused none = absurd (false≢true (sym (ap is-refused none)))
 
   pub hole-numbers : (before : ℕ) → OneOf (answered before (findHole s t) .answer) numbers
   unfolding answered
