@@ -1,0 +1,2 @@
+pub mod RoundTrip
+mod Ways
