@@ -1,5 +1,5 @@
 pub mod Columns
 pub mod Walks
 pub mod Fresh
-mod Ways
+pub mod Ways
 mod Fills
