@@ -1,0 +1,172 @@
+// The ride ledger: which scan of a pass is a ride. It is fed by the delivered list, entry after entry, and so it is the same at every reader.
+ghost use mathlib.Core.Path.{_≡_};
+ghost use mathlib.Core.Bool.{true};
+ghost use Rattle.basics.specs.Outcome.{outcome};
+ghost use Rattle.entries.specs.Entry.{entryIn};
+ghost use Rattle.entries.specs.declared.Entry.the-variants.{Sale, Boarding};
+ghost use Rattle.passes.specs.Passes.{columns, table, inUse, sound};
+ghost use Rattle.ledger.specs.Rule.{sell, boardPass, board};
+ghost use Rattle.ledger.specs.Ledger.{carriedOut, enter};
+use entries::Entry;
+use passes::Pass;
+
+pub const SOLD: u32 = 109;
+
+pub const BOARDED: u32 = 110;
+
+pub const SKIPPED: u32 = 111;
+
+// What a boarding comes to at its pass: the pass behind it, or the refusal.
+enum Boarded {
+    Taken(Pass),
+    Refused(u32),
+}
+
+fn sell(
+    passes: &mut [u32],
+    rides_left: &mut [u8],
+    last_days: &mut [u16],
+    last_scans: &mut [u32],
+    count: &mut u32,
+    number: u32,
+    rides: u8,
+    last_day: u16,
+) -> u32
+    requires { let before = columns (now passes) (now «rides_left») (now «last_days») (now «last_scans») in
+        ⌜ sound (table before (now count)) ≡ true ⌝ }
+    ensures { λ r.
+        let before = table (columns (now (passes .entry)) (now («rides_left» .entry)) (now («last_days» .entry)) (now («last_scans» .entry))) (now (count .entry)) in
+        let after = table (columns (now (passes .exit)) (now («rides_left» .exit)) (now («last_days» .exit)) (now («last_scans» .exit))) (now (count .exit)) in
+        ⌜ outcome r after ≡ carriedOut before (sell (inUse before) number rides «last_day») ⌝ }
+{
+    let in_use = *count;
+    if passes::find(passes, 0, in_use, number) < in_use {
+        return 32;
+    }
+    if passes::is_full(in_use) {
+        return 33;
+    }
+    let opened = Pass {
+        number,
+        rides_left: rides,
+        last_day,
+        last_scan: 0,
+    };
+    passes::store_pass(
+        passes,
+        rides_left,
+        last_days,
+        last_scans,
+        in_use as usize,
+        opened,
+    );
+    *count = in_use + 1;
+    SOLD
+}
+
+fn board_pass(pass: Pass, day: u16, scan: u32) -> Boarded
+    ensures { λ r. ⌜ r ≡ boardPass pass day scan ⌝ }
+{
+    if pass.last_day < day {
+        return Boarded::Refused(35);
+    }
+    if scan <= pass.last_scan {
+        return Boarded::Refused(36);
+    }
+    if pass.rides_left < 1 {
+        return Boarded::Refused(37);
+    }
+    Boarded::Taken(Pass {
+        number: pass.number,
+        rides_left: pass.rides_left - 1,
+        last_day: pass.last_day,
+        last_scan: scan,
+    })
+}
+
+fn board(
+    passes: &mut [u32],
+    rides_left: &mut [u8],
+    last_days: &mut [u16],
+    last_scans: &mut [u32],
+    count: u32,
+    number: u32,
+    day: u16,
+    scan: u32,
+) -> u32
+    requires { let before = columns (now passes) (now «rides_left») (now «last_days») (now «last_scans») in
+        ⌜ sound (table before count) ≡ true ⌝ }
+    ensures { λ r.
+        let before = table (columns (now (passes .entry)) (now («rides_left» .entry)) (now («last_days» .entry)) (now («last_scans» .entry))) count in
+        let after = table (columns (now (passes .exit)) (now («rides_left» .exit)) (now («last_days» .exit)) (now («last_scans» .exit))) count in
+        ⌜ outcome r after ≡ carriedOut before (board (inUse before) number day scan) ⌝ }
+{
+    let place = passes::find(passes, 0, count, number);
+    if count <= place {
+        return 34;
+    }
+    let pass = passes::pass_at(passes, rides_left, last_days, last_scans, place as usize);
+    match board_pass(pass, day, scan) {
+        Boarded::Taken(next) => {
+            passes::store_pass(
+                passes,
+                rides_left,
+                last_days,
+                last_scans,
+                place as usize,
+                next,
+            );
+            BOARDED
+        }
+        Boarded::Refused(refusal) => refusal,
+    }
+}
+
+// One entry of the delivered list. A refusal and a skip leave the table as it came.
+#[no_mangle]
+pub extern "C" fn myrthakel_ledger_enter(
+    value: &[u8],
+    passes: &mut [u32],
+    rides_left: &mut [u8],
+    last_days: &mut [u16],
+    last_scans: &mut [u32],
+    count: &mut u32,
+) -> u32
+    ensures { λ r.
+        let before = table (columns (now (passes .entry)) (now («rides_left» .entry)) (now («last_days» .entry)) (now («last_scans» .entry))) (now (count .entry)) in
+        let after = table (columns (now (passes .exit)) (now («rides_left» .exit)) (now («last_days» .exit)) (now («last_scans» .exit))) (now (count .exit)) in
+        ⌜ outcome r after ≡ enter (now (value .entry)) before ⌝ }
+{
+    let in_use = *count;
+    if !passes::is_sound(passes, rides_left, last_days, last_scans, in_use) {
+        return 30;
+    }
+    match entries::entry_in(value) {
+        Entry::Null => SKIPPED,
+        Entry::Malformed => 31,
+        Entry::Sale {
+            pass,
+            rides,
+            last_day,
+        } => sell(
+            passes,
+            rides_left,
+            last_days,
+            last_scans,
+            count,
+            pass,
+            rides,
+            last_day,
+        ),
+        Entry::Boarding { pass, day, scan } => board(
+            passes,
+            rides_left,
+            last_days,
+            last_scans,
+            in_use,
+            pass,
+            day,
+            scan,
+        ),
+    }
+}
