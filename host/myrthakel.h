@@ -1,5 +1,5 @@
 /*
- * The exported calls of the proved players, for a host in C or C++.
+ * The exported calls of the proved players, and of the ride ledger above them, for a host in C or C++.
  *
  * A call takes whatever packet, tables and settings it is given, and answers a verdict or a refusal. It does no input or output, keeps nothing, and
  * never blocks. A refusal leaves every byte that was lent as it came.
@@ -15,6 +15,10 @@
  * - what is handed over is a request, a malformed packet, or a copy of a packet that a call said to send: lost, doubled or late, but not changed. In a frame
  *   that is owed of the packet: a copy is one of the 36 bytes, in whatever frame, and a frame refused by 21 to 25 counts as malformed.
  * Nothing is claimed of a run in which a saved table was read back.
+ *
+ * For a ledger it owes that the table begins with count 0, that nothing but the ledger's call writes it from then on, and that this call is given the values
+ * of one learner's delivered list: from the first on, in order, each once. Then, of two ledgers in a run, one is what the other was after as many values. A
+ * ledger that was lost is made again from count 0, by the list from its first value on.
  *
  * Settings, the same in every call of a run: acceptors (M) is 3, 5 or 7; instances (N) is 1 to 1024. A packet is 36 bytes. A value in a table is two
  * numbers: the first eight of its sixteen bytes as one big-endian number, then the last eight.
@@ -43,6 +47,9 @@ extern "C" {
 #define MYRTHAKEL_VALUE_LENGTH 16
 #define MYRTHAKEL_SAVED_LENGTH(instances) (8 + 21 * (size_t)(instances))
 
+/* The passes that a ledger has room for: the length of each of its columns. */
+#define MYRTHAKEL_PASSES 256
+
 /* Verdicts: what to do with the packet as the call left it. The last three are for calls that send nothing: done; not decided yet; no hole. */
 enum {
     MYRTHAKEL_TO_ACCEPTORS = 101,
@@ -55,7 +62,14 @@ enum {
     MYRTHAKEL_NO_HOLE = 108
 };
 
-/* Refusals, in the paper's numbers; the last five are of frames. */
+/* What the ledger did with a value. */
+enum {
+    MYRTHAKEL_SOLD = 109,
+    MYRTHAKEL_BOARDED = 110,
+    MYRTHAKEL_SKIPPED = 111
+};
+
+/* Refusals, in the paper's numbers; those from 21 on are of frames, those from 30 on of the ledger. */
 enum {
     MYRTHAKEL_WRONG_LENGTH = 1,
     MYRTHAKEL_WRONG_MARK = 2,
@@ -78,7 +92,15 @@ enum {
     MYRTHAKEL_WRONG_FRAME_HEADER = 22,
     MYRTHAKEL_WRONG_IPV4_CHECKSUM = 23,
     MYRTHAKEL_WRONG_UDP_HEADER = 24,
-    MYRTHAKEL_WRONG_UDP_CHECKSUM = 25
+    MYRTHAKEL_WRONG_UDP_CHECKSUM = 25,
+    MYRTHAKEL_UNSOUND_LEDGER = 30,
+    MYRTHAKEL_MALFORMED_ENTRY = 31,
+    MYRTHAKEL_PASS_EXISTS = 32,
+    MYRTHAKEL_LEDGER_FULL = 33,
+    MYRTHAKEL_UNKNOWN_PASS = 34,
+    MYRTHAKEL_DAY_PAST = 35,
+    MYRTHAKEL_SCAN_NOT_NEWER = 36,
+    MYRTHAKEL_NO_RIDE_LEFT = 37
 };
 
 /* Types of packets, in the paper's numbers. */
@@ -88,6 +110,12 @@ enum {
     MYRTHAKEL_PROMISE = 2,
     MYRTHAKEL_PROPOSE = 3,
     MYRTHAKEL_VOTE = 4
+};
+
+/* Kinds of entries in a ledger, in the request's numbers. */
+enum {
+    MYRTHAKEL_SALE = 1,
+    MYRTHAKEL_BOARDING = 2
 };
 
 /*
@@ -324,6 +352,31 @@ uint32_t myrthakel_frame_check(uint16_t port, const uint8_t *frame, size_t frame
  * owes that it seals only what a call left or the check passed: a damaged packet would be taken for a copy. Refusals: 21, 22, 24 (UDP length alone).
  */
 uint32_t myrthakel_frame_seal(uint8_t *frame, size_t frame_length);
+
+/*
+ * The ride ledger: the passes that were sold, in the order of their sales. Tables: four columns of 256, which hold a pass's number, its rides left, its last
+ * day and its last scan, and the count of places in use. Places past the count are not looked at, and a sale alone writes the first of them; so count 0 is a
+ * fresh ledger, whatever the columns hold. A value of the delivered list is an entry, big-endian:
+ *
+ *     byte        0    1          2 to 5    6 and 7     8 to 11    12 to 15
+ *     sale        1    1 to 40    pass      last day    0          0
+ *     boarding    2    0          pass      day         scan       0
+ *
+ * Enters one value. Null, 16 zero bytes, is skipped. A sale is sold: its pass, rides and last day, and 0 as the last scan, go to the place of the count, which
+ * rises by 1. A boarding is boarded: its pass has one ride less left, and this scan as its last; the day is not kept. No other place changes, and what is
+ * skipped or refused leaves all as it came. Refusals:
+ * - 30 a column not of 256, a count above 256, a pass twice among those in use, or more than 40 rides left in one in use: judged before the value, null too;
+ * - 31 a value not of 16 bytes, or neither null nor as the table says;
+ * - of a sale: 32 the pass is known, be it used up or expired; 33 all 256 places are in use, for no pass is ever removed;
+ * - of a boarding: 34 the pass is unknown; 35 the day is after its last, which itself is allowed; 36 the scan is not above its last; 37 it has no ride left;
+ * in that order.
+ */
+uint32_t myrthakel_ledger_enter(const uint8_t *value, size_t value_length,
+                                uint32_t *passes, size_t passes_length,
+                                uint8_t *rides_left, size_t rides_left_length,
+                                uint16_t *last_days, size_t last_days_length,
+                                uint32_t *last_scans, size_t last_scans_length,
+                                uint32_t *count);
 
 #ifdef __cplusplus
 }

@@ -17,11 +17,14 @@ static void numbers(void)
     NUMBER(MYRTHAKEL_VALUE_LENGTH, 16);
     NUMBER(MYRTHAKEL_SAVED_LENGTH(1), 29);
     NUMBER(MYRTHAKEL_SAVED_LENGTH(1024), 21512);
+    NUMBER(MYRTHAKEL_PASSES, 256);
     NUMBER(MYRTHAKEL_REQUEST, 0);
     NUMBER(MYRTHAKEL_PREPARE, 1);
     NUMBER(MYRTHAKEL_PROMISE, 2);
     NUMBER(MYRTHAKEL_PROPOSE, 3);
     NUMBER(MYRTHAKEL_VOTE, 4);
+    NUMBER(MYRTHAKEL_SALE, 1);
+    NUMBER(MYRTHAKEL_BOARDING, 2);
     NUMBER(MYRTHAKEL_TO_ACCEPTORS, 101);
     NUMBER(MYRTHAKEL_TO_LEADER, 102);
     NUMBER(MYRTHAKEL_TO_LEARNERS, 103);
@@ -30,6 +33,9 @@ static void numbers(void)
     NUMBER(MYRTHAKEL_DONE, 106);
     NUMBER(MYRTHAKEL_NOT_YET, 107);
     NUMBER(MYRTHAKEL_NO_HOLE, 108);
+    NUMBER(MYRTHAKEL_SOLD, 109);
+    NUMBER(MYRTHAKEL_BOARDED, 110);
+    NUMBER(MYRTHAKEL_SKIPPED, 111);
     NUMBER(MYRTHAKEL_WRONG_LENGTH, 1);
     NUMBER(MYRTHAKEL_WRONG_MARK, 2);
     NUMBER(MYRTHAKEL_WRONG_VERSION, 3);
@@ -52,6 +58,14 @@ static void numbers(void)
     NUMBER(MYRTHAKEL_WRONG_IPV4_CHECKSUM, 23);
     NUMBER(MYRTHAKEL_WRONG_UDP_HEADER, 24);
     NUMBER(MYRTHAKEL_WRONG_UDP_CHECKSUM, 25);
+    NUMBER(MYRTHAKEL_UNSOUND_LEDGER, 30);
+    NUMBER(MYRTHAKEL_MALFORMED_ENTRY, 31);
+    NUMBER(MYRTHAKEL_PASS_EXISTS, 32);
+    NUMBER(MYRTHAKEL_LEDGER_FULL, 33);
+    NUMBER(MYRTHAKEL_UNKNOWN_PASS, 34);
+    NUMBER(MYRTHAKEL_DAY_PAST, 35);
+    NUMBER(MYRTHAKEL_SCAN_NOT_NEWER, 36);
+    NUMBER(MYRTHAKEL_NO_RIDE_LEFT, 37);
 }
 
 /* One depot, all players fresh. */
@@ -179,6 +193,45 @@ static void frame_answers(void)
     TAKEN(MYRTHAKEL_FRAME_LENGTH, check(MYRTHAKEL_FRAME_LENGTH, 0, 2) == 106);
 }
 
+static uint32_t passes[256], last_scans[256], passes_in_use;
+static uint16_t last_days[256];
+static uint8_t rides_left[256];
+
+static uint32_t enter(uint8_t kind, uint8_t rides, uint32_t pass, uint8_t day, uint8_t scan)
+{
+    uint8_t value[16] = {kind, rides, 0, 0, (uint8_t)(pass >> 8), (uint8_t)pass, 0, day, 0, 0, 0, scan};
+    return myrthakel_ledger_enter(value, 16, passes, 256, rides_left, 256, last_days, 256, last_scans, 256, &passes_in_use);
+}
+
+/* The answer to the last of so many sales, from a fresh ledger on. */
+static uint32_t sales(uint32_t count)
+{
+    uint32_t answered = 0;
+    passes_in_use = 0;
+    for (uint32_t i = 0; i < count; i++)
+        answered = enter(1, 1, i, 5, 0);
+    return answered;
+}
+
+static void ledger_answers(void)
+{
+    ANSWER(MYRTHAKEL_SKIPPED, enter(0, 0, 0, 0, 0));
+    ANSWER(MYRTHAKEL_MALFORMED_ENTRY, enter(3, 0, 9, 5, 1));
+    ANSWER(MYRTHAKEL_UNKNOWN_PASS, enter(2, 0, 9, 5, 1));
+    TAKEN(MYRTHAKEL_SALE, enter(MYRTHAKEL_SALE, 2, 9, 5, 0) == 109);
+    ANSWER(MYRTHAKEL_PASS_EXISTS, enter(1, 2, 9, 5, 0));
+    ANSWER(MYRTHAKEL_BOARDED, enter(2, 0, 9, 5, 1));
+    ANSWER(MYRTHAKEL_DAY_PAST, enter(2, 0, 9, 6, 2));
+    ANSWER(MYRTHAKEL_SCAN_NOT_NEWER, enter(2, 0, 9, 5, 1));
+    TAKEN(MYRTHAKEL_BOARDING, enter(MYRTHAKEL_BOARDING, 0, 9, 5, 2) == 110);
+    ANSWER(MYRTHAKEL_NO_RIDE_LEFT, enter(2, 0, 9, 5, 3));
+    ANSWER(MYRTHAKEL_SOLD, sales(1));
+    TAKEN(MYRTHAKEL_PASSES, sales(MYRTHAKEL_PASSES) == 109);
+    ANSWER(MYRTHAKEL_LEDGER_FULL, sales(257));
+    passes[0] = passes[1];
+    ANSWER(MYRTHAKEL_UNSOUND_LEDGER, enter(0, 0, 0, 0, 0));
+}
+
 static void answers(void)
 {
     make_fresh();
@@ -219,5 +272,6 @@ int main(void)
     kinds();
     answers();
     frame_answers();
+    ledger_answers();
     return told();
 }
