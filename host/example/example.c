@@ -1,5 +1,5 @@
 /*
- * An example host: acceptors 0 to 2, the primary, backup 1 and a learner, each a process with a UDP socket on loopback, which stands for its port on a switch:
+ * An example host: acceptors 0 to 2, the primary, backup 1 and two learners, each a process with a UDP socket on loopback, which stands for its port on a switch:
  * what goes over it are whole frames. This process plays the client, the operator who chooses the leader, and the wires, which can lose a frame or hold it
  * back. It prints what happened line by line, and counts whether it is what should have happened. The frames that reached a player are left in a file.
  *
@@ -70,28 +70,33 @@ static const char *shown(const char *value)
     return text;
 }
 
-/* The acceptors from one number to another are to do the same. Where one does not, the story goes on: a majority is enough. */
-static void expect_acceptors(int from, int to, uint32_t verdict, const message *wanted, const char *did)
+/* Acceptors, or learners, from one to another are to do the same. Where one does not, the story goes on: a majority is enough. Answers whether all did. */
+static int expect_alike(int from, int to, uint32_t verdict, const message *wanted, const char *did)
 {
-    char who[32] = "";
+    const int acceptors = from < ACCEPTORS;
+    char numbers[32] = "", who[48];
     int count = 0;
     for (int i = from; i <= to; i++)
         if (await(i, verdict, wanted)) {
-            size_t used = strlen(who);
-            snprintf(who + used, sizeof who - used, count++ ? ", %d" : " %d", i);
+            size_t used = strlen(numbers);
+            snprintf(numbers + used, sizeof numbers - used, count++ ? ", %d" : " %d", acceptors ? i : i - LEARNER_1 + 1);
         } else {
             expect(0, player_name(i), "%s", did);
         }
-    if (count == 0)
-        return;
-    passed += count;
-    printf("  acceptor%s%-*s%s\n", count > 1 ? "s" : "", count > 1 ? 10 : 11, who, did);
+    if (count > 0) {
+        passed += count;
+        snprintf(who, sizeof who, "%s%s%s", acceptors ? "acceptor" : "learner", count > 1 ? "s" : "", numbers);
+        printf("  %-19s%s\n", who, did);
+    }
+    return count == to - from + 1;
 }
 
-static void expect_decided(uint32_t instance, uint32_t round, const char *value)
+static void expect_decided(int from, int to, uint32_t instance, uint32_t round, const char *value)
 {
     message vote = {MYRTHAKEL_VOTE, instance, round, round, value};
-    need(expect(await(LEARNER, MYRTHAKEL_DECIDED, &vote), "learner", "decided instance %u: %s", instance, shown(value)));
+    char did[64];
+    snprintf(did, sizeof did, "decided instance %u: %s", instance, shown(value));
+    need(expect_alike(from, to, MYRTHAKEL_DECIDED, &vote, did));
 }
 
 static void request(uint32_t instance, const char *value)
@@ -106,8 +111,8 @@ static void request_decided(uint32_t instance, const char *value)
 {
     message vote = {MYRTHAKEL_VOTE, instance, 0, 0, value};
     request(instance, value);
-    expect_acceptors(0, 2, MYRTHAKEL_TO_LEARNERS, &vote, "voted for it");
-    expect_decided(instance, 0, value);
+    expect_alike(0, 2, MYRTHAKEL_TO_LEARNERS, &vote, "voted for it");
+    expect_decided(LEARNER_1, LEARNER_2, instance, 0, value);
 }
 
 /* No acceptor gets this propose in time: one is lost, and two, which would be a majority, still travel. */
@@ -123,7 +128,7 @@ static void request_not_heard(uint32_t instance, const char *value)
     need(expect(await(WIRE(PROPOSE_WIRE + 2), HELD_BACK, &propose), "wire", "held back the propose to acceptor 2, which still travels"));
 }
 
-/* Two acceptors vote, so the value is chosen; but one of the votes is lost, and the learner cannot know. */
+/* Two acceptors vote, so the value is chosen; but one of the votes is lost on its way to learner 1, which cannot know. */
 static void request_chosen_unknown(uint32_t instance, const char *value)
 {
     message propose = {MYRTHAKEL_PROPOSE, instance, 0, MYRTHAKEL_NONE, value}, vote = {MYRTHAKEL_VOTE, instance, 0, 0, value};
@@ -131,12 +136,13 @@ static void request_chosen_unknown(uint32_t instance, const char *value)
     arrange(VOTE_WIRE + 1, instance, LOST);
     request(instance, value);
     need(expect(await(WIRE(PROPOSE_WIRE + 2), HELD_BACK, &propose), "wire", "held back the propose to acceptor 2, which still travels"));
-    expect_acceptors(0, 1, MYRTHAKEL_TO_LEARNERS, &vote, "voted for it");
-    expect(await(WIRE(VOTE_WIRE + 1), LOST, &vote), "wire", "lost acceptor 1's vote");
-    expect(await(LEARNER, MYRTHAKEL_HOLD, &vote), "learner", "held one vote: not yet decided");
+    expect_alike(0, 1, MYRTHAKEL_TO_LEARNERS, &vote, "voted for it");
+    expect(await(WIRE(VOTE_WIRE + 1), LOST, &vote), "wire", "lost acceptor 1's vote to learner 1");
+    expect(await(LEARNER_1, MYRTHAKEL_HOLD, &vote), "learner 1", "held one vote: not yet decided");
+    expect_decided(LEARNER_2, LEARNER_2, instance, 0, value);
 }
 
-/* Starts backup 1 on an instance with one value; it proposes that, or the value that it finds by the promises. */
+/* Starts backup 1 on an instance with one value; it proposes that, or the value that it finds by the promises, which learner 2 has decided before. */
 static void take_over(uint32_t instance, const char *own, const char *found)
 {
     const char *proposed = found ? found : own;
@@ -147,14 +153,14 @@ static void take_over(uint32_t instance, const char *own, const char *found)
     need(expect(await(BACKUP, MYRTHAKEL_TO_ACCEPTORS, &prepare), "backup 1", "asked for promises in round 1"));
     if (found) {
         message with_vote = {MYRTHAKEL_PROMISE, instance, 1, 0, found};
-        expect_acceptors(0, 1, MYRTHAKEL_TO_LEADER, &with_vote, "promised, and told of the vote in round 0");
-        expect_acceptors(2, 2, MYRTHAKEL_TO_LEADER, &no_vote, "promised: no vote so far");
+        expect_alike(0, 1, MYRTHAKEL_TO_LEADER, &with_vote, "promised, and told of the vote in round 0");
+        expect_alike(2, 2, MYRTHAKEL_TO_LEADER, &no_vote, "promised: no vote so far");
     } else {
-        expect_acceptors(0, 2, MYRTHAKEL_TO_LEADER, &no_vote, "promised: no vote so far");
+        expect_alike(0, 2, MYRTHAKEL_TO_LEADER, &no_vote, "promised: no vote so far");
     }
     need(expect(await(BACKUP, MYRTHAKEL_TO_ACCEPTORS, &propose), "backup 1", "proposed %s in round 1", shown(proposed)));
-    expect_acceptors(0, 2, MYRTHAKEL_TO_LEARNERS, &vote, "voted for it");
-    expect_decided(instance, 1, proposed);
+    expect_alike(0, 2, MYRTHAKEL_TO_LEARNERS, &vote, "voted for it");
+    expect_decided(LEARNER_1, found ? LEARNER_1 : LEARNER_2, instance, 1, proposed);
 }
 
 /* Adds a value to a list in words, with its instance before it where that is not below 0. */
@@ -174,12 +180,12 @@ static void print_answer(const char *what, const char *answer, const char *expec
     judge(strcmp(answer, expected) == 0, expected);
 }
 
-/* Asks the learner and prints what it answers: the decided instances with their values, the delivered list, and the first hole. */
-static void ask(const char *expected_decided, const char *expected_list, const char *expected_hole)
+/* Asks a learner and prints what it answers: the decided instances with their values, the delivered list, and the first hole. */
+static void ask(int learner, const char *expected_decided, const char *expected_list, const char *expected_hole)
 {
     char decided[256] = "", list[256] = "", hole[32] = "none";
-    const learned *now = ask_learner();
-    need(expect(now != NULL, "learner", "was asked, and answered"));
+    const learned *now = ask_learner(learner);
+    need(expect(now != NULL, player_name(learner), "was asked, and answered"));
     for (int i = 0; i < INSTANCES; i++)
         if (now->answers[i] == MYRTHAKEL_DONE)
             add_value(decided, sizeof decided, i, now->values + i * MYRTHAKEL_VALUE_LENGTH);
@@ -204,11 +210,11 @@ static void until_the_stop(void)
     request_not_heard(2, "pass 1003");
     request_decided(3, "pass 1004");
 
-    heading("A value is chosen for instance 4 by two votes, but the learner hears of one");
+    heading("A value is chosen for instance 4 by two votes, but learner 1 hears of one");
     request_chosen_unknown(4, "pass 1005");
 
     heading("Before the repair");
-    ask("0: pass 1001, 1: pass 1002, 3: pass 1004", "pass 1001, pass 1002", "instance 2");
+    ask(LEARNER_1, "0: pass 1001, 1: pass 1002, 3: pass 1004", "pass 1001, pass 1002", "instance 2");
 
     heading("The primary is stopped, while three of its proposes still travel");
     need(expect(kill_player(PRIMARY), "operator", "killed the primary's process"));
@@ -221,24 +227,26 @@ static void from_the_stop(void)
     heading("Backup 1 takes over by hand: the hole is filled with null");
     take_over(2, NULL_VALUE, NULL);
 
-    heading("The last hole of the evening");
-    ask("0: pass 1001, 1: pass 1002, 2: null, 3: pass 1004", "pass 1001, pass 1002, null, pass 1004", "instance 4");
+    heading("The last hole of the evening: learner 1 lacks a value that learner 2 has");
+    ask(LEARNER_1, "0: pass 1001, 1: pass 1002, 2: null, 3: pass 1004", "pass 1001, pass 1002, null, pass 1004", "instance 4");
+    ask(LEARNER_2, "0: pass 1001, 1: pass 1002, 2: null, 3: pass 1004, 4: pass 1005", "pass 1001, pass 1002, null, pass 1004, pass 1005", "none");
 
     heading("Where a value may have been chosen, the backup finds it and keeps it");
     take_over(4, NULL_VALUE, "pass 1005");
 
     heading("The old packets arrive at last");
     release(2);
-    expect_acceptors(1, 2, MYRTHAKEL_ROUND_BELOW, &old_hole, "refused the old propose for instance 2 (10: round below)");
+    expect_alike(1, 2, MYRTHAKEL_ROUND_BELOW, &old_hole, "refused the old propose for instance 2 (10: round below)");
     release(4);
-    expect_acceptors(2, 2, MYRTHAKEL_ROUND_BELOW, &old_chosen, "refused the old propose for instance 4 (10: round below)");
+    expect_alike(2, 2, MYRTHAKEL_ROUND_BELOW, &old_chosen, "refused the old propose for instance 4 (10: round below)");
 
     heading("The client of the lost request asks again: backup 1 leads");
     take_over(5, "pass 1003", NULL);
 
     heading("After the repair");
-    ask("0: pass 1001, 1: pass 1002, 2: null, 3: pass 1004, 4: pass 1005, 5: pass 1003",
-        "pass 1001, pass 1002, null, pass 1004, pass 1005, pass 1003", "none");
+    for (int learner = LEARNER_1; learner <= LEARNER_2; learner++)
+        ask(learner, "0: pass 1001, 1: pass 1002, 2: null, 3: pass 1004, 4: pass 1005, 5: pass 1003",
+            "pass 1001, pass 1002, null, pass 1004, pass 1005, pass 1003", "none");
 }
 
 static _Noreturn void tell_usage(void)
@@ -268,7 +276,7 @@ int main(int count, char **arguments)
     setvbuf(stdout, NULL, _IOLBF, 0);
     start_players((uint16_t)first_port, arguments[1]);
     printf("The frames that reach a player go to %s, which packet analysers open.\n", arguments[1]);
-    printf("Acceptors 0 to 2, the primary, backup 1 and a learner run, each a process with its own UDP port.\n");
+    printf("Acceptors 0 to 2, the primary, backup 1 and learners 1 and 2 run, each a process with its own UDP port.\n");
     if (pause_milliseconds > 0)
         name_processes();
     until_the_stop();

@@ -45,12 +45,12 @@ static wire wires[WIRES];
 static event events[MOST_EVENTS];
 static int event_count, client, capture;
 static uint16_t first;
-static learned last_learned;
+static learned last_learned[PLAYERS];
 
 const char *player_name(int who)
 {
     static char name[32];
-    static const char *const others[] = {[PRIMARY] = "primary", [BACKUP] = "backup 1", [LEARNER] = "learner"};
+    static const char *const others[] = {[PRIMARY] = "primary", [BACKUP] = "backup 1", [LEARNER_1] = "learner 1", [LEARNER_2] = "learner 2"};
     if (who >= ACCEPTORS)
         return others[who];
     snprintf(name, sizeof name, "acceptor %d", who);
@@ -104,7 +104,7 @@ static void open_ports(void)
         players[i] = (player){.socket = open_port((uint16_t)(first + i)), .control = -1};
     for (int i = 0; i < WIRES; i++) {
         wires[i].socket = open_port((uint16_t)(first + WIRE(i)));
-        wires[i].destination = (uint16_t)(first + (i < VOTE_WIRE ? i : LEARNER));
+        wires[i].destination = (uint16_t)(first + (i < VOTE_WIRE ? i : LEARNER_1));
     }
     client = socket(AF_INET, SOCK_DGRAM, 0);
 }
@@ -122,7 +122,7 @@ static void keep_only(int own)
     close(client);
 }
 
-/* What the primary and the acceptors send for others than the leader goes over the wires. */
+/* What the primary sends, and the acceptors for learner 1, goes over the wires. */
 static place place_of(int who, int control)
 {
     place here = {.player = who, .socket = players[who].socket, .control = control, .capture = capture};
@@ -132,7 +132,7 @@ static place place_of(int who, int control)
         for (int i = 0; i < ACCEPTORS; i++)
             here.ports[i] = (uint16_t)(first + WIRE(PROPOSE_WIRE + i));
     if (who < ACCEPTORS)
-        here.ports[LEARNER] = (uint16_t)(first + WIRE(VOTE_WIRE + who));
+        here.ports[LEARNER_1] = (uint16_t)(first + WIRE(VOTE_WIRE + who));
     return here;
 }
 
@@ -221,8 +221,8 @@ static void hear_player(int who)
     report heard;
     ssize_t length = recv(players[who].control, &heard, sizeof heard, MSG_DONTWAIT);
     if (length == (ssize_t)sizeof heard) {
-        if (who == LEARNER && heard.verdict == MYRTHAKEL_DONE)
-            last_learned = heard.learned;
+        if (heard.verdict == MYRTHAKEL_DONE)
+            last_learned[who] = heard.learned;
         keep_event(who, heard.verdict, heard.frame);
     } else if (length == 0 || (length < 0 && errno != EAGAIN && errno != EINTR)) {
         int status = bury(who);
@@ -374,8 +374,8 @@ void send_command(int who, uint32_t kind, uint32_t instance, const char *value)
         (void)send(players[who].control, &order, sizeof order, MSG_NOSIGNAL);
 }
 
-const learned *ask_learner(void)
+const learned *ask_learner(int who)
 {
-    send_command(LEARNER, QUESTION, 0, NULL_VALUE);
-    return await(LEARNER, MYRTHAKEL_DONE, NULL) ? &last_learned : NULL;
+    send_command(who, QUESTION, 0, NULL_VALUE);
+    return await(who, MYRTHAKEL_DONE, NULL) ? &last_learned[who] : NULL;
 }

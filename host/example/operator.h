@@ -12,7 +12,7 @@ typedef struct {
     const char *value; /* a text of at most 16 characters */
 } message;
 
-/* The wires from the primary to acceptor i, and from acceptor i to the learner, pass through the operator's hands; backup 1 sends directly. */
+/* The wires from the primary to acceptor i, and from acceptor i to learner 1, pass through the operator's hands; the others are whole. */
 enum { PROPOSE_WIRE, VOTE_WIRE = ACCEPTORS, WIRES = 2 * ACCEPTORS };
 
 /* What a wire did with a frame. Numbers that no call answers, since a wire is heard like a player. */
@@ -41,8 +41,8 @@ void send_command(int player, uint32_t kind, uint32_t instance, const char *valu
 /* Whether the source is heard with this verdict on this message (whatever its switch number), now or within the time that the operator waits. */
 int await(int source, uint32_t verdict, const message *wanted);
 
-/* Asks the learner. Answers null where it does not answer. */
-const learned *ask_learner(void);
+/* Asks a learner. Answers null where it does not answer. */
+const learned *ask_learner(int learner);
 
 /* Listens for so long, and names the processes, so that a user can stop one and watch. */
 void listen_for(int milliseconds);

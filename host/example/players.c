@@ -48,7 +48,8 @@ static void carry_out(const place *here, uint32_t verdict, const uint8_t *frame)
     else if (verdict == MYRTHAKEL_TO_LEADER)
         forward(here, BACKUP, frame);
     else if (verdict == MYRTHAKEL_TO_LEARNERS)
-        forward(here, LEARNER, frame);
+        for (int i = LEARNER_1; i <= LEARNER_2; i++)
+            forward(here, i, frame);
     memcpy(what.frame, frame, sizeof what.frame);
     tell_operator(here, &what);
 }
@@ -203,7 +204,7 @@ _Noreturn void play(const place *here)
         play_primary(here);
     if (here->player == BACKUP)
         play_backup(here);
-    if (here->player == LEARNER)
+    if (here->player >= LEARNER_1)
         play_learner(here);
     play_acceptor(here);
 }

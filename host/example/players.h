@@ -8,7 +8,7 @@
 enum { ACCEPTORS = 3, INSTANCES = 8, BACKUP_NUMBER = 1 };
 
 /* Player i below ACCEPTORS is acceptor i. Behind the players, among the boxes that frames go between, stands the client's. */
-enum { PRIMARY = ACCEPTORS, BACKUP, LEARNER, PLAYERS, CLIENT = PLAYERS };
+enum { PRIMARY = ACCEPTORS, BACKUP, LEARNER_1, LEARNER_2, PLAYERS, CLIENT = PLAYERS };
 
 /* What a player is given: its own number and UDP socket, its line to the operator, the file for frames that arrive, and the ports that lead to others. */
 typedef struct {
@@ -16,7 +16,7 @@ typedef struct {
     uint16_t ports[PLAYERS];
 } place;
 
-/* From the operator, one datagram each. Every player answers a roll call; the backup takes a start, the learner a question. */
+/* From the operator, one datagram each. Every player answers a roll call; the backup takes a start, a learner a question. */
 enum { ROLL_CALL, START, QUESTION };
 
 typedef struct {
@@ -25,7 +25,7 @@ typedef struct {
     uint64_t value_high, value_low;
 } command;
 
-/* What the learner says when asked. */
+/* What a learner says when asked. */
 typedef struct {
     uint32_t answers[INSTANCES]; /* for each instance: done, with its value, or not yet */
     uint8_t values[INSTANCES * MYRTHAKEL_VALUE_LENGTH];
