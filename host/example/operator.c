@@ -62,11 +62,9 @@ typedef struct {
     uint64_t high, low;
 } halves;
 
-static halves halves_of(const char *value)
+static halves halves_of(entry value)
 {
-    uint8_t bytes[MYRTHAKEL_VALUE_LENGTH] = {0};
-    memcpy(bytes, value, strnlen(value, MYRTHAKEL_VALUE_LENGTH));
-    return (halves){get_number(bytes, 8), get_number(bytes + 8, 8)};
+    return (halves){get_number(value.bytes, 8), get_number(value.bytes + 8, 8)};
 }
 
 /* A packet's fields. */
@@ -320,7 +318,7 @@ static int wait_for(int source, uint32_t verdict, const message *wanted)
 static void call_names(void)
 {
     for (int i = 0; i < PLAYERS; i++)
-        send_command(i, ROLL_CALL, 0, NULL_VALUE);
+        send_command(i, ROLL_CALL, 0, NULL_ENTRY);
     for (int i = 0; i < PLAYERS; i++)
         if (!players[i].gone && !wait_for(i, MYRTHAKEL_DONE, NULL) && !players[i].gone) {
             printf("%s does not answer; see whether its process is stopped, and run the example again\n", player_name(i));
@@ -355,7 +353,7 @@ void release(uint32_t instance)
 }
 
 /* A client on a machine of its own would write 36 bytes to a UDP socket, and its kernel the frame around them. */
-void send_request(const char *value)
+void send_request(entry value)
 {
     uint8_t frame[MYRTHAKEL_FRAME_LENGTH];
     halves asked = halves_of(value);
@@ -366,7 +364,7 @@ void send_request(const char *value)
         send_frame(client, (uint16_t)(first + PRIMARY), frame);
 }
 
-void send_command(int who, uint32_t kind, uint32_t instance, const char *value)
+void send_command(int who, uint32_t kind, uint32_t instance, entry value)
 {
     halves own = halves_of(value);
     command order = {.kind = kind, .instance = instance, .floor = 0, .value_high = own.high, .value_low = own.low};
@@ -376,6 +374,6 @@ void send_command(int who, uint32_t kind, uint32_t instance, const char *value)
 
 const learned *ask_learner(int who)
 {
-    send_command(who, QUESTION, 0, NULL_VALUE);
+    send_command(who, QUESTION, 0, NULL_ENTRY);
     return await(who, MYRTHAKEL_DONE, NULL) ? &last_learned[who] : NULL;
 }

@@ -4,12 +4,9 @@
 
 #include "players.h"
 
-/* The null value is 16 zero bytes, so the empty text stands for it. */
-#define NULL_VALUE ""
-
 typedef struct {
     uint32_t kind, instance, round, vote_round;
-    const char *value; /* a text of at most 16 characters */
+    entry value;
 } message;
 
 /* The wires from the primary to acceptor i, and from acceptor i to learner 1, pass through the operator's hands; the others are whole. */
@@ -35,8 +32,8 @@ void arrange(int wire, uint32_t instance, uint32_t what);
 /* Lets the packets of the instance that were held back go on. */
 void release(uint32_t instance);
 
-void send_request(const char *value);
-void send_command(int player, uint32_t kind, uint32_t instance, const char *value);
+void send_request(entry value);
+void send_command(int player, uint32_t kind, uint32_t instance, entry value);
 
 /* Whether the source is heard with this verdict on this message (whatever its switch number), now or within the time that the operator waits. */
 int await(int source, uint32_t verdict, const message *wanted);

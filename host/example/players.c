@@ -2,7 +2,7 @@
  * The players' processes. Each does what the verdicts of its own player's calls say: the library sends nothing and waits for nothing.
  *
  * What the host owes by myrthakel.h holds by construction: each table is an array of its own in one process without threads, so none overlap and each
- * is lent to one call at a time, and each length is its array's.
+ * is lent to one call at a time, and each length is its array's. A ledger is its learner's: it begins with count 0 and reads on as the delivered list grows.
  *
  * The tables live as long as the process. An acceptor that ended must not come back with fresh ones, which would have forgotten its promises and
  * votes; nor a primary, which would propose for instances that it has used; nor a backup, which would propose another value in a round that it has
@@ -165,37 +165,52 @@ typedef struct {
     uint64_t values[2 * INSTANCES];
 } learner_tables;
 
-static void answer_question(const place *here, const learner_tables *tables)
+/* What the delivered list has gained goes to the ledger, each value once and in order. Answers as delivery does. */
+static uint32_t read_on(const learner_tables *tables, learned *known)
 {
-    report what = {0};
-    learned *answer = &what.learned;
-    for (uint32_t i = 0; i < INSTANCES; i++) {
-        uint64_t high = 0, low = 0;
-        answer->answers[i] = myrthakel_learner_answer(ACCEPTORS, INSTANCES, i, tables->rounds, INSTANCES, tables->sets, INSTANCES,
-                                                      tables->values, 2 * INSTANCES, &high, &low);
-        put_number(answer->values + i * MYRTHAKEL_VALUE_LENGTH, 8, high);
-        put_number(answer->values + i * MYRTHAKEL_VALUE_LENGTH + 8, 8, low);
-    }
-    answer->hole_answer = myrthakel_learner_first_hole(ACCEPTORS, INSTANCES, tables->rounds, INSTANCES, tables->sets, INSTANCES,
-                                                       tables->values, 2 * INSTANCES, &answer->hole);
-    /* Where the list is refused the answer as a whole is not done, and the operator misses it. */
-    what.verdict = myrthakel_learner_deliver(ACCEPTORS, INSTANCES, tables->rounds, INSTANCES, tables->sets, INSTANCES,
-                                             tables->values, 2 * INSTANCES, answer->delivered, sizeof answer->delivered, &answer->delivered_count);
-    tell_operator(here, &what);
+    uint32_t before = known->delivered_count;
+    uint32_t answer = myrthakel_learner_deliver(ACCEPTORS, INSTANCES, tables->rounds, INSTANCES, tables->sets, INSTANCES, tables->values, 2 * INSTANCES,
+                                                known->delivered, sizeof known->delivered, &known->delivered_count);
+    for (uint32_t i = before; i < known->delivered_count; i++)
+        known->entered[i] = enter(&known->rides, known->delivered + i * MYRTHAKEL_VALUE_LENGTH);
+    return answer;
 }
 
+static void answer_question(const place *here, const learner_tables *tables, learned *known)
+{
+    for (uint32_t i = 0; i < INSTANCES; i++) {
+        uint64_t high = 0, low = 0;
+        known->answers[i] = myrthakel_learner_answer(ACCEPTORS, INSTANCES, i, tables->rounds, INSTANCES, tables->sets, INSTANCES,
+                                                     tables->values, 2 * INSTANCES, &high, &low);
+        put_number(known->values + i * MYRTHAKEL_VALUE_LENGTH, 8, high);
+        put_number(known->values + i * MYRTHAKEL_VALUE_LENGTH + 8, 8, low);
+    }
+    known->hole_answer = myrthakel_learner_first_hole(ACCEPTORS, INSTANCES, tables->rounds, INSTANCES, tables->sets, INSTANCES,
+                                                      tables->values, 2 * INSTANCES, &known->hole);
+    /* Where the list is refused the answer as a whole is not done, and the operator misses it. */
+    uint32_t verdict = read_on(tables, known);
+    tell_operator(here, &(report){.verdict = verdict, .learned = *known});
+}
+
+/* The ledger begins with count 0, as the list does. */
 static _Noreturn void play_learner(const place *here)
 {
     learner_tables tables;
+    learned known = {0};
     datagram frame;
     command order;
     begin(myrthakel_learner_fresh(ACCEPTORS, INSTANCES, tables.rounds, INSTANCES, tables.sets, INSTANCES, tables.values, 2 * INSTANCES));
-    for (;;)
-        if (next(here, &frame, &order))
-            answer_question(here, &tables);
-        else
-            carry_out(here, myrthakel_learner_frame(ACCEPTORS, INSTANCES, FRAME_PORT, frame.bytes, frame.length, tables.rounds, INSTANCES,
-                                                    tables.sets, INSTANCES, tables.values, 2 * INSTANCES), frame.bytes);
+    for (;;) {
+        if (next(here, &frame, &order)) {
+            answer_question(here, &tables, &known);
+            continue;
+        }
+        uint32_t verdict = myrthakel_learner_frame(ACCEPTORS, INSTANCES, FRAME_PORT, frame.bytes, frame.length, tables.rounds, INSTANCES,
+                                                   tables.sets, INSTANCES, tables.values, 2 * INSTANCES);
+        if (verdict == MYRTHAKEL_DECIDED)
+            (void)read_on(&tables, &known);
+        carry_out(here, verdict, frame.bytes);
+    }
 }
 
 _Noreturn void play(const place *here)

@@ -3,11 +3,12 @@
 #define PLAYERS_H
 
 #include "frames.h"
+#include "ledger.h"
 
 /* M and N, the same in every call of the run, and the backup's own number. */
 enum { ACCEPTORS = 3, INSTANCES = 8, BACKUP_NUMBER = 1 };
 
-/* Player i below ACCEPTORS is acceptor i. Behind the players, among the boxes that frames go between, stands the client's. */
+/* Player i below ACCEPTORS is acceptor i. Behind the players, among the boxes that frames go between, stands the clients'. */
 enum { PRIMARY = ACCEPTORS, BACKUP, LEARNER_1, LEARNER_2, PLAYERS, CLIENT = PLAYERS };
 
 /* What a player is given: its own number and UDP socket, its line to the operator, the file for frames that arrive, and the ports that lead to others. */
@@ -31,6 +32,8 @@ typedef struct {
     uint8_t values[INSTANCES * MYRTHAKEL_VALUE_LENGTH];
     uint32_t delivered_count;
     uint8_t delivered[INSTANCES * MYRTHAKEL_VALUE_LENGTH];
+    uint32_t entered[INSTANCES]; /* for each delivered value: what the ledger answered */
+    ledger rides;
     uint32_t hole_answer, hole;
 } learned;
 
