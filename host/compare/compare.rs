@@ -1,7 +1,7 @@
 //! Calls the archives and the model on the same inputs and compares the answer and everything lent, byte for byte.
-//! Usage: compare COUNT SEED. The model is held to the change request's frames. Then each call is compared on its sweeps and COUNT times its share in scenes by
-//! chance, on inputs of its own stream. Then come the digests, of each call and of all, and the last line is 'N passed, M failed', where N counts the frames of
-//! the request and the calls that agreed.
+//! Usage: compare COUNT SEED. The model is held to the change requests' frames and entries. Then each call is compared on its sweeps and COUNT times its share
+//! in scenes by chance, on inputs of its own stream. Then come the digests, of each call and of all, and the last line is 'N passed, M failed', where N counts
+//! the frames and entries of the requests and the calls that agreed.
 
 mod borders;
 mod both;
@@ -11,8 +11,11 @@ mod frame_cases;
 mod frame_inputs;
 mod frames;
 mod inputs;
+mod ledger;
+mod ledger_cases;
 mod model;
 mod random;
+mod rides;
 mod scenes;
 mod sweeps;
 mod tables;
@@ -235,7 +238,7 @@ impl Comparison {
 fn main() {
     let (count, seed) = random::count_and_seed();
     let (mut passed, mut failed) = (0, 0);
-    for (case, holds) in frame_cases::of_the_model() {
+    for (case, holds) in frame_cases::of_the_model().into_iter().chain(ledger_cases::of_the_model()) {
         passed += holds as u64;
         failed += !holds as usize;
         if !holds {

@@ -17,7 +17,7 @@ const IPV4_NOT_OF_D: &str = "45b80040b6e940003f11ffffc0000201c000020a";
 const PORTS: &str = "9c41b7bc002c";
 const PORT: u16 = 47_036;
 
-fn bytes(parts: &[&str]) -> Vec<u8> {
+pub fn bytes(parts: &[&str]) -> Vec<u8> {
     let digits: Vec<u8> = parts.concat().bytes().map(|digit| (digit as char).to_digit(16).unwrap_or(0) as u8).collect();
     digits.chunks(2).map(|pair| pair[0] << 4 | pair[1]).collect()
 }

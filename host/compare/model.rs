@@ -68,7 +68,7 @@ pub struct Message {
 }
 
 /// The number in big-endian bytes.
-fn number(bytes: &[u8]) -> u128 {
+pub fn number(bytes: &[u8]) -> u128 {
     bytes.iter().fold(0, |sum, byte| sum << 8 | *byte as u128)
 }
 

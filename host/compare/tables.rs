@@ -11,6 +11,12 @@ pub const DECIDED: u32 = 105;
 pub const DONE: u32 = 106;
 pub const NOT_YET: u32 = 107;
 pub const NO_HOLE: u32 = 108;
+pub const SOLD: u32 = 109;
+pub const BOARDED: u32 = 110;
+pub const SKIPPED: u32 = 111;
+
+/// How many passes a ledger has room for.
+pub const PASSES: usize = 256;
 
 #[derive(Clone, Copy, PartialEq, Debug)]
 pub struct Settings {
@@ -72,6 +78,25 @@ pub struct LearnerTables {
     pub values: Vec<u64>,
 }
 
+/// A ledger as it is lent: the first so many places of its columns are passes in order of sale.
+#[derive(Clone, PartialEq, Debug)]
+pub struct LedgerTable {
+    pub passes: Vec<u32>,
+    pub rides_left: Vec<u8>,
+    pub last_days: Vec<u16>,
+    pub last_scans: Vec<u32>,
+    pub count: u32,
+}
+
+/// A pass that is in use.
+#[derive(Clone, PartialEq, Debug)]
+pub struct Pass {
+    pub number: u32,
+    pub rides_left: u8,
+    pub last_day: u16,
+    pub last_scan: u32,
+}
+
 // Tables of N cells that hold ones: whoever wants them fresh has them filled.
 
 impl AcceptorTables {
@@ -96,6 +121,30 @@ impl BackupTables {
 impl LearnerTables {
     pub fn used(instances: usize) -> Self {
         LearnerTables { rounds: vec![1; instances], sets: vec![1; instances], values: vec![1; 2 * instances] }
+    }
+}
+
+impl LedgerTable {
+    /// A ledger without a pass, in columns that hold this number.
+    pub fn fresh(filling: u8) -> Self {
+        LedgerTable {
+            passes: vec![filling as u32; PASSES],
+            rides_left: vec![filling; PASSES],
+            last_days: vec![filling as u16; PASSES],
+            last_scans: vec![filling as u32; PASSES],
+            count: 0,
+        }
+    }
+
+    /// The columns reach as far as the count.
+    pub fn in_use(&self) -> Vec<Pass> {
+        let pass = |place: usize| Pass {
+            number: self.passes[place],
+            rides_left: self.rides_left[place],
+            last_day: self.last_days[place],
+            last_scan: self.last_scans[place],
+        };
+        (0..self.count as usize).map(pass).collect()
     }
 }
 
