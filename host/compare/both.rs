@@ -3,6 +3,7 @@
 use crate::digest::Content;
 use crate::frames::{self, word, IPV4_CHECKSUM, LENGTH, PACKET, UDP_CHECKSUM};
 use crate::inputs::TOP_BIT;
+use crate::ledger::{self, Entry};
 use crate::tables::*;
 use crate::{calls, model, Comparison};
 use std::fmt::Debug;
@@ -30,6 +31,16 @@ pub const IPV4_ONES: &str = "ffff for it refused";
 pub const UDP_ONES: &str = "UDP checksum ffff taken";
 pub const UDP_ZERO: &str = "0000 for it refused";
 pub const SECOND_CARRY: &str = "either checksum fffe, by a second carry, taken";
+pub const TABLE_FAULT: &str = "each reason of 30 alone";
+pub const TWICE: &str = "each place as one of two with a pass";
+pub const TOO_MANY_LEFT: &str = "each place with rides left above 40";
+pub const PAST_COUNT: &str = "either of these past the count, taken";
+pub const IN_USE: &str = "each count of passes in use";
+pub const ENTRY_LENGTH: &str = "each length up to 32";
+pub const ENTRY_FAULT: &str = "each reason of 31 alone";
+pub const LATER_REASON: &str = "32 before 33, 35 before 36 and 37, 36 before 37";
+pub const BOARDING_BOUND: &str = "boarded on the last day, with the next scan, on the last ride";
+pub const SUM: &str = "rides sold equal to those boarded and left";
 
 pub type PacketWrite = (Fields, Vec<u8>);
 pub type PacketRead = (Vec<u8>, Fields);
@@ -50,6 +61,7 @@ pub type BackupFrame = (Settings, u32, u16, Vec<u8>, BackupTables);
 pub type LearnerFrame = (Settings, u16, Vec<u8>, LearnerTables);
 pub type FramePrepare = (Vec<u8>, Addresses, Vec<u8>);
 pub type FrameCheck = (u16, Vec<u8>);
+pub type LedgerEnter = (Vec<u8>, LedgerTable);
 
 /// All but 7 and the refusals of a frame come after these, or where there is no frame.
 fn passed_frame(answer: u32) -> bool {
@@ -395,4 +407,58 @@ pub fn frame_seal(comparison: &mut Comparison, input: Vec<u8>) {
     let (answer, after) = comparison.compare(&input, |lent| calls::frame_seal(lent), |lent| frames::frame_seal(lent));
     let port = if after.len() == LENGTH { word(&after, frames::PORT_TO) } else { 0 };
     saw_frame(comparison, answer, port, &after);
+}
+
+// Ledger
+
+fn saw_each(comparison: &mut Comparison, kind: &'static str, had: &[bool]) {
+    (0..).zip(had).filter(|(_, had)| **had).for_each(|(number, _)| comparison.saw(kind, number));
+}
+
+/// What would be refused by 30 if it stood before the count.
+fn saw_past_count(comparison: &mut Comparison, table: &LedgerTable) {
+    let count = table.count as usize;
+    let (in_use, past) = table.passes.split_at(count);
+    let twice = past.iter().any(|pass| in_use.contains(pass));
+    let too_many_left = table.rides_left[count..].iter().any(|rides| *rides > ledger::MOST_RIDES);
+    saw_each(comparison, PAST_COUNT, &[twice, too_many_left]);
+}
+
+fn saw_known_pass(comparison: &mut Comparison, answer: u32, entry: &Entry, pass: &Pass, full: bool) {
+    let (scan_not_newer, no_ride) = (entry.scan <= pass.last_scan, pass.rides_left == 0);
+    let later_reasons = [answer == 32 && full, answer == 35 && scan_not_newer, answer == 35 && no_ride, answer == 36 && no_ride];
+    saw_each(comparison, LATER_REASON, &later_reasons);
+    if answer == BOARDED {
+        let bounds = [entry.day == pass.last_day, entry.scan - 1 == pass.last_scan, pass.rides_left == 1];
+        saw_each(comparison, BOARDING_BOUND, &bounds);
+    }
+}
+
+fn saw_entry(comparison: &mut Comparison, answer: u32, value: &[u8], table: &LedgerTable) {
+    comparison.saw(ENTRY_LENGTH, value.len() as u32);
+    if value.len() != 16 {
+        return;
+    }
+    let entry = ledger::entry_in(value);
+    if answer == 31 {
+        lone_fault(&ledger::entry_faults(&entry)).into_iter().for_each(|number| comparison.saw(ENTRY_FAULT, number));
+    }
+    let passes = table.in_use();
+    if let Some(pass) = passes.iter().find(|pass| pass.number == entry.pass) {
+        saw_known_pass(comparison, answer, &entry, pass, passes.len() == PASSES);
+    }
+}
+
+pub fn ledger_enter(comparison: &mut Comparison, input: LedgerEnter) -> (u32, LedgerTable) {
+    let archive = |lent: &mut LedgerEnter| calls::ledger_enter(&mut lent.0, &mut lent.1);
+    let (answer, after) = comparison.compare(&input, archive, |lent| ledger::ledger_enter(&lent.0, &mut lent.1));
+    let (value, table) = input;
+    if answer == 30 {
+        lone_fault(&ledger::table_faults(&table)).into_iter().for_each(|number| comparison.saw(TABLE_FAULT, number));
+    } else {
+        comparison.saw(IN_USE, table.count);
+        saw_past_count(comparison, &table);
+        saw_entry(comparison, answer, &value, &table);
+    }
+    (answer, after.1)
 }

@@ -173,6 +173,15 @@ extern "C" {
     fn myrthakel_frame_check(port: u16, frame: *const u8, frame_length: usize) -> u32;
 
     fn myrthakel_frame_seal(frame: *mut u8, frame_length: usize) -> u32;
+
+    fn myrthakel_ledger_enter(
+        value: *const u8, value_length: usize,
+        passes: *mut u32, passes_length: usize,
+        rides_left: *mut u8, rides_left_length: usize,
+        last_days: *mut u16, last_days_length: usize,
+        last_scans: *mut u32, last_scans_length: usize,
+        count: *mut u32,
+    ) -> u32;
 }
 
 #[rustfmt::skip]
@@ -465,4 +474,18 @@ pub fn frame_check(port: u16, frame: &mut [u8]) -> u32 {
 
 pub fn frame_seal(frame: &mut [u8]) -> u32 {
     unsafe { myrthakel_frame_seal(frame.as_mut_ptr(), frame.len()) }
+}
+
+#[rustfmt::skip]
+pub fn ledger_enter(value: &mut [u8], table: &mut LedgerTable) -> u32 {
+    unsafe {
+        myrthakel_ledger_enter(
+            value.as_mut_ptr(), value.len(),
+            table.passes.as_mut_ptr(), table.passes.len(),
+            table.rides_left.as_mut_ptr(), table.rides_left.len(),
+            table.last_days.as_mut_ptr(), table.last_days.len(),
+            table.last_scans.as_mut_ptr(), table.last_scans.len(),
+            &mut table.count,
+        )
+    }
 }

@@ -13,6 +13,8 @@ mod frames;
 mod inputs;
 mod ledger;
 mod ledger_cases;
+mod ledger_inputs;
+mod ledger_sweeps;
 mod model;
 mod random;
 mod rides;
@@ -53,6 +55,8 @@ const LEARNER_KINDS: Kinds = &[(both::M, 256), (both::SET, 256), (both::CELL_TOP
 const HOLE_KINDS: Kinds = &[(both::GAP, 1), (both::LAST_HOLE, 1), (both::UNTOUCHED, 1)];
 const SUM_KINDS: Kinds = &[(both::FRAME_LENGTH, 101), (both::IPV4_ZERO, 1), (both::UDP_ONES, 1), (both::SECOND_CARRY, 2)];
 const FRAME_KINDS: Kinds = &[(both::FLIPPED_BIT, 528), (both::HEADER_FAULT, 5), (both::UDP_FAULT, 2), (both::IPV4_ONES, 1), (both::UDP_ZERO, 1)];
+const LEDGER_KINDS: Kinds = &[(both::TABLE_FAULT, 7), (both::TWICE, 256), (both::TOO_MANY_LEFT, 256), (both::PAST_COUNT, 2), (both::IN_USE, 257)];
+const ENTRY_KINDS: Kinds = &[(both::ENTRY_LENGTH, 33), (both::ENTRY_FAULT, 5), (both::LATER_REASON, 4), (both::BOARDING_BOUND, 3), (both::SUM, 1)];
 
 #[rustfmt::skip]
 const CALLS: &[Call] = &[
@@ -159,6 +163,10 @@ const CALLS: &[Call] = &[
         name: "frame_seal", share: 1, answers: &[21, 22, 24, DONE], kinds: &[SUM_KINDS, &[(both::HEADER_FAULT, 5), (both::UDP_FAULT, 1)]],
         sweep: sweeps::frame_seal, scene: scenes::frame_seal,
     },
+    Call {
+        name: "ledger_enter", share: 1, answers: &[30, 31, 32, 33, 34, 35, 36, 37, SOLD, BOARDED, SKIPPED], kinds: &[LEDGER_KINDS, ENTRY_KINDS],
+        sweep: ledger_sweeps::ledger_enter, scene: scenes::ledger_enter,
+    },
 ];
 
 /// One call in comparison. Its inputs are a stream of its own, so that its digest stays when other calls come.
@@ -197,14 +205,27 @@ impl Comparison {
             println!("input   {:x?}", input);
             println!("archive {} {:x?}", answer, by_archive);
             println!("model   {} {:x?}", expected, by_model);
-            println!("{} passed, 1 failed", self.compared);
-            std::process::exit(1);
+            self.end();
         }
         self.compared += 1;
         *self.answers.entry(answer).or_insert(0) += 1;
         answer.add_to(&mut self.digest);
         by_archive.add_to(&mut self.digest);
         (answer, by_archive)
+    }
+
+    fn end(&self) -> ! {
+        println!("{} passed, 1 failed", self.compared);
+        std::process::exit(1);
+    }
+
+    /// What has to be so of what the calls left, counted as a kind of its own.
+    pub fn hold(&mut self, kind: &'static str, holds: bool) {
+        if !holds {
+            println!("FAILED: {} after {} calls does not have {}", self.call, self.compared, kind);
+            self.end();
+        }
+        self.saw(kind, 0);
     }
 
     /// Counts an input of a kind, by its number where the kind has several.

@@ -64,6 +64,7 @@ parts! {
     AcceptorTables: rounds vote_rounds values;
     BackupTables: rounds phases sets best_vote_rounds best_values own_values;
     LearnerTables: rounds sets values;
+    LedgerTable: passes rides_left last_days last_scans count;
 }
 
 macro_rules! tuples {

@@ -29,6 +29,11 @@ pub fn entry_in(value: &[u8]) -> Entry {
     }
 }
 
+pub fn value_with(entry: &Entry) -> Vec<u8> {
+    let Entry { kind, rides, pass, day, scan, rest } = *entry;
+    [&[kind, rides][..], &pass.to_be_bytes(), &day.to_be_bytes(), &scan.to_be_bytes(), &rest.to_be_bytes()].concat()
+}
+
 /// The reasons of refusal 31 but the length.
 #[rustfmt::skip]
 pub fn entry_faults(entry: &Entry) -> [bool; 5] {

@@ -2,6 +2,7 @@
 
 use crate::inputs::{Cell, Inputs};
 use crate::model::{self, PREPARE, PROMISE, PROPOSE, REQUEST, VOTE};
+use crate::rides::Rides;
 use crate::tables::*;
 use crate::{both, frames, Comparison};
 
@@ -447,4 +448,27 @@ pub fn learner_read_saved(comparison: &mut Comparison, settings: Settings) {
         let saved = comparison.inputs.saved(right);
         both::learner_read_saved(comparison, (settings, saved, tables));
     });
+}
+
+// Ledger
+
+/// A list of entries, mostly from the fresh ledger. After each of them the customer's sum is held.
+pub fn ledger_enter(comparison: &mut Comparison, _: Settings) {
+    let riders = comparison.inputs.riders();
+    let mut table = comparison.inputs.ledger(&riders);
+    let mut rides = Rides::left_in(&table);
+    for _ in 0..32 {
+        let inputs = &mut comparison.inputs;
+        let value = inputs.entry(&riders, &table);
+        if inputs.random.chance(8) {
+            let mut spoiled = table.clone();
+            inputs.spoil_ledger(&mut spoiled);
+            both::ledger_enter(comparison, (value, spoiled));
+            continue;
+        }
+        let (answer, after) = both::ledger_enter(comparison, (value.clone(), table));
+        rides.enter(&value, answer);
+        comparison.hold(both::SUM, rides.add_up(&after));
+        table = after;
+    }
 }
