@@ -1,13 +1,16 @@
-//! Runs of all players of one depot over the archives' calls, on a network that loses, doubles, delays and reorders; after every step, demand 3. At the end
-//! every hole is repaired, and what a learner heard of is then delivered.
+//! Runs of all players of one depot over the archives' calls, on a network that loses, doubles, delays and reorders; after every step, demand 3, and a ledger
+//! beside each learner. At the end every hole is repaired, and what a learner heard of is then delivered.
 //! Usage: simulate RUNS SEED. So many runs hand over packets, and as many hand over each packet in a frame with a header by chance, on a network that damages
 //! frames as well. The last line is 'N passed, M failed', in runs.
 
 mod borders;
 mod calls;
+mod ledgers;
 mod random;
+mod rides;
 mod tables;
 
+use ledgers::Ledger;
 use random::Random;
 use std::collections::BTreeMap;
 use std::time::{Duration, Instant};
@@ -50,6 +53,8 @@ struct Run {
     acceptors: Vec<AcceptorTables>,
     backups: Vec<BackupTables>,
     learners: Vec<LearnerTables>,
+    /// One beside each learner. What their columns hold at the beginning differs.
+    ledgers: [Ledger; LEARNERS],
     sent: Vec<Packet>,
     travelling: Vec<(Player, Packet)>,
     /// The acceptors that have sent a vote, by instance, round and value.
@@ -98,6 +103,7 @@ impl Run {
             acceptors: vec![acceptor; settings.acceptors as usize],
             backups: vec![backup; BACKUPS],
             learners: vec![learner; LEARNERS],
+            ledgers: [0x07, 0xff].map(Ledger::fresh),
             sent: Vec::new(),
             travelling: Vec::new(),
             votes: BTreeMap::new(),
@@ -160,9 +166,10 @@ impl Run {
         }
     }
 
+    /// An entry that suits how many the primary has numbered, or now and then a malformed one.
     fn not_null(&mut self) -> u128 {
-        let other = 1 + self.random.number() as u128;
-        self.random.pick(&[0x2a, 0x2b, 0x2a << 64, 0x2a << 64 | 0x2b, other])
+        let malformed = 1 + self.random.number() as u128;
+        ledgers::any_entry(&mut self.random, self.next[0] as usize, malformed)
     }
 
     /// Mostly for the primary; another player refuses it.
@@ -437,7 +444,12 @@ impl Run {
         if lists[0][..shorter] != lists[1][..shorter] {
             return Err(format!("delivered lists part: {:x?}", lists));
         }
-        Ok(())
+        self.check_ledgers(&lists)
+    }
+
+    fn check_ledgers(&mut self, lists: &[Vec<u128>]) -> Result<(), String> {
+        self.ledgers.iter_mut().zip(lists).try_for_each(|(ledger, list)| ledger.read_on(list))?;
+        self.ledgers[0].check_beside(&self.ledgers[1])
     }
 
     fn answers(&mut self, learner: usize) -> Result<Vec<Option<u128>>, String> {
@@ -540,6 +552,7 @@ fn simulate(runs: u64, seed: u64, framed: bool) -> (u64, u64) {
     if framed {
         seen.push(("a damaged frame", 0));
     }
+    let mut answers = BTreeMap::new();
     let mut told = Instant::now();
     for _ in 0..runs {
         let seed = seeds.number();
@@ -556,17 +569,24 @@ fn simulate(runs: u64, seed: u64, framed: bool) -> (u64, u64) {
         let Seen { decision, takeover, null_repair, kept, repaired, last_hole, damage } = run.seen;
         let had = [decision, takeover, null_repair, kept, repaired, last_hole, damage];
         seen.iter_mut().zip(had).for_each(|((_, count), had)| *count += had as u64);
+        run.ledgers.iter().flat_map(|ledger| &ledger.answers).for_each(|answer| *answers.entry(*answer).or_insert(0) += 1);
         if told.elapsed() >= Duration::from_secs(5) {
             eprintln!("simulate: {} of {} runs over {}", passed + failed, runs, over);
             told = Instant::now();
         }
     }
-    for (what, count) in seen {
-        println!("runs over {} with {}: {}", over, what, count);
-        if count == 0 {
-            println!("FAILED: no run over {} had {}", over, what);
-            failed += 1;
-        }
+    failed += seen.iter().map(|(what, count)| tell(&format!("runs over {} with {}", over, what), *count)).sum::<u64>();
+    for (answer, what) in ledgers::ANSWERS {
+        failed += tell(&format!("entries over {} {}", over, what), *answers.get(&answer).unwrap_or(&0));
     }
     (passed, failed)
+}
+
+/// Prints how often something came up; that it never did is a failure.
+fn tell(what: &str, count: u64) -> u64 {
+    println!("{}: {}", what, count);
+    if count == 0 {
+        println!("FAILED: no {}", what);
+    }
+    (count == 0) as u64
 }
