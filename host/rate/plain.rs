@@ -1,10 +1,11 @@
-//! The baseline: the four players, and an acceptor on frames, with every check of the paper, in the paper's order, as one writes them in Rust for speed. No
-//! proof, no contract.
+//! The baseline: the four players, an acceptor on frames and the ledger, with every check of the paper and its requests, in their order, as one writes them in
+//! Rust for speed. No proof, no contract.
 
 pub mod acceptor;
 pub mod backup;
 pub mod frames;
 pub mod learner;
+pub mod ledger;
 pub mod primary;
 
 const NONE: u32 = u32::MAX;

@@ -1,6 +1,7 @@
 //! Times each proved player against a plain one on the same packets, and holds every answer, packet and table of the one to the other's.
 //! With the words `PLAYER proved|plain COUNT` it only makes so many packets and takes those steps, for a counter of instructions, and with the word `without`
-//! behind them it leaves out the steps. `acceptor-frames` is the acceptor on frames, around the same packets.
+//! behind them it leaves out the steps. `acceptor-frames` is the acceptor on frames, around the same packets. `ledger-0`, `ledger-128` and `ledger-256` are the
+//! ledger with so many passes in use, and their packets are entries.
 mod plain;
 
 #[allow(dead_code)]
@@ -25,9 +26,12 @@ const CELLS: usize = INSTANCES as usize;
 const ACCEPTOR: u32 = 2;
 const BACKUP: u32 = 1;
 const STEPS: usize = 1_000_000;
+/// For the ledger, which looks at every pair of its passes in each step.
+const ENTRIES: usize = 20_000;
 const TURNS: usize = 15;
 const PACKET: usize = 36;
 const FRAME: usize = 78;
+const ENTRY: usize = 16;
 const PORT: u16 = 47_036;
 
 /// One of the two that are timed: what its tables are at the start of a batch, and its step.
@@ -39,6 +43,7 @@ struct Side<T> {
 /// A player, proved and plain, on packets or frames of one length. They come in batches, each to tables of its own, since tables fill up.
 struct Player<T, const LENGTH: usize> {
     name: &'static str,
+    steps: usize,
     batch: usize,
     packets: fn(usize, &mut Random) -> [u8; LENGTH],
     proved: Side<T>,
@@ -114,6 +119,17 @@ fn vote(_: usize, random: &mut Random) -> [u8; PACKET] {
     packet(4, sender, instance, round, round, (instance as u128) << 64 | other)
 }
 
+/// A sale or a boarding.
+fn entry(kind: u8, rides: u8, pass: usize, scan: usize) -> [u8; ENTRY] {
+    let [pass, scan] = [pass, scan].map(|number| number as u128);
+    (((kind as u128) << 8 | rides as u128) << 112 | pass << 80 | scan << 32).to_be_bytes()
+}
+
+/// A boarding of any pass in use, with a scan above all before it; where none is in use, of one that was not sold.
+fn boarding<const IN_USE: usize>(index: usize, random: &mut Random) -> [u8; ENTRY] {
+    entry(2, 0, random.below(IN_USE.max(1)), index + 1)
+}
+
 // ---- players
 
 fn fresh<T>(mut tables: T, fill: fn(Settings, &mut T) -> u32) -> T {
@@ -125,6 +141,7 @@ fn primary() -> Player<Vec<u32>, PACKET> {
     let ready = || fresh(vec![1], calls::primary_fresh);
     Player {
         name: "primary",
+        steps: STEPS,
         batch: 1100,
         packets: request,
         proved: Side { ready, step: |packet, next| calls::primary_step(SETTINGS, packet, next) },
@@ -136,6 +153,7 @@ fn acceptor() -> Player<AcceptorTables, PACKET> {
     let ready = || fresh(AcceptorTables::used(CELLS), calls::acceptor_fresh);
     Player {
         name: "acceptor",
+        steps: STEPS,
         batch: 8192,
         packets: order,
         proved: Side { ready, step: |packet, t| calls::acceptor_step(SETTINGS, ACCEPTOR, packet, t) },
@@ -152,6 +170,7 @@ fn acceptor_frames() -> Player<AcceptorTables, FRAME> {
     let ready = || fresh(AcceptorTables::used(CELLS), calls::acceptor_fresh);
     Player {
         name: "acceptor-frames",
+        steps: STEPS,
         batch: 8192,
         packets: framed_order,
         proved: Side { ready, step: |frame, t| calls::acceptor_frame(SETTINGS, ACCEPTOR, PORT, frame, t) },
@@ -202,6 +221,7 @@ fn plain_start(named: Start, buffer: &mut [u8], t: &mut BackupTables) -> u32 {
 fn backup() -> Player<Started, PACKET> {
     Player {
         name: "backup",
+        steps: STEPS,
         batch: 2048,
         packets: promise,
         proved: Side {
@@ -219,12 +239,36 @@ fn learner() -> Player<LearnerTables, PACKET> {
     let ready = || fresh(LearnerTables::used(CELLS), calls::learner_fresh);
     Player {
         name: "learner",
+        steps: STEPS,
         batch: 2048,
         packets: vote,
         proved: Side { ready, step: |packet, t| calls::learner_step(SETTINGS, packet, t) },
         plain: Side {
             ready,
             step: |packet, t| plain::learner::step(ACCEPTORS, INSTANCES, packet, &mut t.rounds, &mut t.sets, &mut t.values),
+        },
+    }
+}
+
+fn sold<const IN_USE: usize>() -> LedgerTable {
+    let mut table = LedgerTable::fresh(0);
+    for pass in 0..IN_USE {
+        assert_eq!(calls::ledger_enter(&mut entry(1, 40, pass, 0), &mut table), SOLD);
+    }
+    table
+}
+
+/// A batch has so few entries that no pass is used up.
+fn ledger<const IN_USE: usize>(name: &'static str) -> Player<LedgerTable, ENTRY> {
+    Player {
+        name,
+        steps: ENTRIES,
+        batch: 2000,
+        packets: boarding::<IN_USE>,
+        proved: Side { ready: sold::<IN_USE>, step: |value, t| calls::ledger_enter(value, t) },
+        plain: Side {
+            ready: sold::<IN_USE>,
+            step: |value, t| plain::ledger::enter(value, &mut t.passes, &mut t.rides_left, &mut t.last_days, &mut t.last_scans, &mut t.count),
         },
     }
 }
@@ -250,13 +294,18 @@ fn run<T, const LENGTH: usize>(side: &Side<T>, batch: &[u8]) -> (Duration, Left<
 }
 
 /// Steps a second in millions, where each batch takes the median of its times: what else the machine did meanwhile is left out.
-fn rate(times: Vec<Vec<Duration>>) -> f64 {
+fn rate(steps: usize, times: Vec<Vec<Duration>>) -> f64 {
     let median = |mut times: Vec<Duration>| {
         times.sort();
         times[times.len() / 2]
     };
     let whole: Duration = times.into_iter().map(median).sum();
-    STEPS as f64 / whole.as_secs_f64() / 1e6
+    steps as f64 / whole.as_secs_f64() / 1e6
+}
+
+/// With as many digits as a small one needs.
+fn shown(rate: f64) -> String {
+    if rate < 1.0 { format!("{rate:.3}") } else { format!("{rate:.1}") }
 }
 
 impl<T: PartialEq, const LENGTH: usize> Player<T, LENGTH> {
@@ -267,7 +316,7 @@ impl<T: PartialEq, const LENGTH: usize> Player<T, LENGTH> {
 
     /// In each turn the two take every batch one after the other, and take turns at being the first.
     fn time(&self) {
-        let all = self.make(STEPS);
+        let all = self.make(self.steps);
         let batches: Vec<&[u8]> = all.chunks(LENGTH * self.batch).collect();
         let mut proved_times = vec![vec![]; batches.len()];
         let mut plain_times = proved_times.clone();
@@ -285,9 +334,9 @@ impl<T: PartialEq, const LENGTH: usize> Player<T, LENGTH> {
                 }
             }
         }
-        let (proved, plain) = (rate(proved_times), rate(plain_times));
-        let shares: Vec<String> = counts.iter().map(|(answer, count)| format!("{answer}: {} %", (100 * count + STEPS / 2) / STEPS)).collect();
-        println!("{:<15} {proved:>7.1} {plain:>7.1} {:>7.2}    {}", self.name, proved / plain, shares.join(", "));
+        let (proved, plain) = (rate(self.steps, proved_times), rate(self.steps, plain_times));
+        let shares: Vec<String> = counts.iter().map(|(answer, count)| format!("{answer}: {} %", (100 * count + self.steps / 2) / self.steps)).collect();
+        println!("{:<15} {:>7} {:>7} {:>7.2}    {}", self.name, shown(proved), shown(plain), proved / plain, shares.join(", "));
     }
 
     fn count(&self, side: &Side<T>, count: &str, rest: &[&str]) {
@@ -312,7 +361,7 @@ impl<T: PartialEq, const LENGTH: usize> Player<T, LENGTH> {
 }
 
 fn usage() -> ! {
-    eprintln!("wanted: [primary|acceptor|acceptor-frames|backup|learner [proved|plain COUNT [without]]]");
+    eprintln!("wanted: [primary|acceptor|acceptor-frames|backup|learner|ledger-0|ledger-128|ledger-256 [proved|plain COUNT [without]]]");
     std::process::exit(2)
 }
 
@@ -320,7 +369,7 @@ fn main() {
     let words: Vec<String> = std::env::args().skip(1).collect();
     let words: Vec<&str> = words.iter().map(String::as_str).collect();
     if words.len() < 2 {
-        println!("million steps a second, by the medians of {TURNS} turns of {STEPS} packets");
+        println!("million steps a second, by the medians of {TURNS} turns of {STEPS} packets, for the ledger of {ENTRIES} entries");
         println!("player           proved   plain   ratio    answers");
     }
     match &words[..] {
@@ -330,12 +379,18 @@ fn main() {
             acceptor_frames().time();
             backup().time();
             learner().time();
+            ledger::<0>("ledger-0").time();
+            ledger::<128>("ledger-128").time();
+            ledger::<256>("ledger-256").time();
         }
         ["primary", rest @ ..] => primary().obey(rest),
         ["acceptor", rest @ ..] => acceptor().obey(rest),
         ["acceptor-frames", rest @ ..] => acceptor_frames().obey(rest),
         ["backup", rest @ ..] => backup().obey(rest),
         ["learner", rest @ ..] => learner().obey(rest),
+        ["ledger-0", rest @ ..] => ledger::<0>("ledger-0").obey(rest),
+        ["ledger-128", rest @ ..] => ledger::<128>("ledger-128").obey(rest),
+        ["ledger-256", rest @ ..] => ledger::<256>("ledger-256").obey(rest),
         _ => usage(),
     }
     if words.len() < 2 {
