@@ -41,6 +41,7 @@ struct Seen {
     kept: bool,
     repaired: bool,
     last_hole: bool,
+    ledger_ahead: bool,
     damage: bool,
 }
 
@@ -449,6 +450,8 @@ impl Run {
 
     fn check_ledgers(&mut self, lists: &[Vec<u128>]) -> Result<(), String> {
         self.ledgers.iter_mut().zip(lists).try_for_each(|(ledger, list)| ledger.read_on(list))?;
+        let read = [0, 1].map(|learner| lists[learner].len());
+        self.seen.ledger_ahead |= read[0] != read[1] && !read.contains(&0);
         self.ledgers[0].check_beside(&self.ledgers[1])
     }
 
@@ -549,6 +552,7 @@ fn simulate(runs: u64, seed: u64, framed: bool) -> (u64, u64) {
     let (mut passed, mut failed) = (0, 0);
     let mut seen = vec![("a decision", 0), ("a takeover that decided", 0), ("a hole repaired by null", 0), ("a decided value kept by a takeover", 0)];
     seen.extend([("all holes repaired at the end", 0), ("a hole with none decided above as the first to be repaired", 0)]);
+    seen.push(("a ledger ahead of another that has read some entry", 0));
     if framed {
         seen.push(("a damaged frame", 0));
     }
@@ -566,8 +570,8 @@ fn simulate(runs: u64, seed: u64, framed: bool) -> (u64, u64) {
                 }
             }
         }
-        let Seen { decision, takeover, null_repair, kept, repaired, last_hole, damage } = run.seen;
-        let had = [decision, takeover, null_repair, kept, repaired, last_hole, damage];
+        let Seen { decision, takeover, null_repair, kept, repaired, last_hole, ledger_ahead, damage } = run.seen;
+        let had = [decision, takeover, null_repair, kept, repaired, last_hole, ledger_ahead, damage];
         seen.iter_mut().zip(had).for_each(|((_, count), had)| *count += had as u64);
         run.ledgers.iter().flat_map(|ledger| &ledger.answers).for_each(|answer| *answers.entry(*answer).or_insert(0) += 1);
         if told.elapsed() >= Duration::from_secs(5) {
