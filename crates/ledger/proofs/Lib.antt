@@ -1,1 +1,4 @@
+pub mod Promises
+mod Steps
+mod OnePass
 mod Ways

@@ -15,11 +15,11 @@ use Rattle.entries.specs.declared.Entry.{Entry}
 use Rattle.entries.specs.declared.Entry.the-variants.{Null, Malformed, Sale, Boarding}
 use Rattle.entries.specs.Entry.{entryIn}
 use Rattle.passes.specs.declared.Pass.{Pass}
-use Rattle.passes.specs.Passes.{pass, Columns, Table, table, numberIn, passAt, withPass, inUse, holding, mostPasses, placeOf, isFull, sound}
+use Rattle.passes.specs.Passes.{Columns, Table, table, numberIn, passAt, withPass, inUse, holding, mostPasses, placeOf, isFull, sound}
 use Rattle.passes.proofs.Laws.{sound-brings, holding-in-use, holding-longer, holding-set, in-use-length, pass-in-use, found-at, found-known, found-unknown}
 use Rattle.ledger.specs.declared.Boarded.{Boarded}
 use Rattle.ledger.specs.declared.Boarded.the-variants.{Taken, Refused}
-use Rattle.ledger.specs.Rule.{sold, boarded, skipped, opened, sell, boardPass, boardedAt, passOf, board, rule}
+use Rattle.ledger.specs.Rule.{sold, boarded, skipped, opened, sell, rideTaken, boardPass, boardedAt, passOf, board, rule}
 use Rattle.ledger.specs.Ledger.{carriedOut, enter}
 
 -- ---- a boarding at its pass
@@ -39,7 +39,7 @@ module _ (p : Pass) (day scan : ℕ) where
       unfolding boardPass need_or_then_
       no-ride-left none = rw (le-leb day (p .«last_day») in-time, lt-ltb (p .«last_scan») scan newer, lt-leb 1 (p .«rides_left») none)
 
-      pub ride-taken : 1 ≤ p .«rides_left» → Taken (pass (p .number) (p .«rides_left» - 1) (p .«last_day») scan) ≡ boardPass p day scan
+      pub ride-taken : 1 ≤ p .«rides_left» → Taken (rideTaken p scan) ≡ boardPass p day scan
       unfolding boardPass need_or_then_
       ride-taken some = rw (le-leb day (p .«last_day») in-time, lt-ltb (p .«last_scan») scan newer, le-leb 1 (p .«rides_left») some)
 

@@ -40,13 +40,17 @@ sell ps number rides lastDay =
 
 -- ---- a boarding
 
--- "it needs .. a ride left, a day not after the last, and a scan number above the last accepted for that pass": a ride is taken, and the scan is the last accepted one.
+-- The pass behind an accepted boarding: a ride is taken, and the scan is the last accepted one.
+abbrev pub rideTaken : Pass → (scan : ℕ) → Pass
+rideTaken p scan = pass (p .number) (p .«rides_left» - 1) (p .«last_day») scan
+
+-- "it needs .. a ride left, a day not after the last, and a scan number above the last accepted for that pass".
 unfoldable pub boardPass : Pass → (day scan : ℕ) → Boarded
 boardPass p day scan =
     need leb day (p .«last_day») or Refused 35 then
     need ltb (p .«last_scan») scan or Refused 36 then
     need leb 1 (p .«rides_left») or Refused 37 then
-    Taken (pass (p .number) (p .«rides_left» - 1) (p .«last_day») scan)
+    Taken (rideTaken p scan)
 
 -- What becomes of the passes: that at the place is the boarded one.
 unfoldable pub boardedAt : List Pass → (place : ℕ) → Boarded → Outcome (List Pass)
