@@ -1,7 +1,7 @@
 -- Well-formed entries and their bytes match one to one: fields and bytes do, and what an entry leaves out of its fields is what its kind fixes.
 -- Assumes nothing.
 use Prim.Native.Nat.{ℕ, _+_, _≤_, _<_, _^_}
-use mathlib.Core.Path.{_≡_, refl, sym, ap, _∙_}
+use mathlib.Core.Path.{_≡_, refl, sym, _∙_}
 use mathlib.Core.Bool.{true, _&&_}
 use mathlib.Core.List.{List, [], _∷_, _++_}
 use native.Mathlib.Omega.{arith}
@@ -11,7 +11,7 @@ use borrow.Author.Tests.{eqb-true, leb-true, le-leb}
 use Rattle.numbers.specs.BigEndian.{toBytes, bytesAt, numberAt, Bytes}
 use Rattle.numbers.proofs.Bytes.{bigEndian-toBytes, toBytes-numberAt, numberAt-lt, written-out}
 use Rattle.basics.specs.Ladder.{if_then_else_, need_or_then_}
-use Rattle.basics.proofs.Ladder.{if-elim, need-elim, both-true, and-true}
+use Rattle.basics.proofs.Ladder.{if-elim, need-elim, both-true}
 use Rattle.entries.specs.declared.Fields.{Fields}
 use Rattle.entries.specs.declared.Entry.{Entry}
 use Rattle.entries.specs.declared.Entry.the-variants.{Null, Malformed, Sale, Boarding}

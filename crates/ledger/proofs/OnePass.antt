@@ -3,7 +3,7 @@
 -- Assumes nothing.
 use Prim.Native.Nat.{ℕ, _+_, _≤_, _<_}
 use mathlib.Core.Path.{_≡_, refl, sym, ap, _∙_, subst}
-use mathlib.Core.Bool.{Bool, true, false, _||_, true≢false, false≢true}
+use mathlib.Core.Bool.{true, false, _||_, false≢true}
 use mathlib.Core.List.{List, [], _∷_, _++_, append-nil}
 use mathlib.Core.Option.{Option, none, some}
 use native.Mathlib.Omega.{arith}
@@ -11,15 +11,15 @@ use lib.Dec.{eqb}
 use lib.ListN.{length}
 use borrow.Author.Tests.{eqb-true, eq-eqb}
 use Rattle.basics.specs.Ladder.{if_then_else_}
-use Rattle.basics.specs.Outcome.{Outcome, outcome}
+use Rattle.basics.specs.Outcome.{Outcome}
 use Rattle.basics.proofs.Ladder.{by-test, if-true, if-false}
 use Rattle.entries.specs.declared.Entry.{Entry}
-use Rattle.entries.specs.declared.Entry.the-variants.{Null, Malformed, Sale, Boarding}
+use Rattle.entries.specs.declared.Entry.the-variants.{Sale, Boarding}
 use Rattle.passes.specs.declared.Pass.{Pass}
 use Rattle.passes.specs.Passes.{numbersOf, among}
 use Rattle.ledger.specs.Rule.{opened, rideTaken}
 use Rattle.ledger.specs.Ledger.{isAccepted, ridesOf, boardingsOf, isOf, ridesSold, boardings, ofPass, leftOn}
-use Rattle.ledger.specs.Promises.{Boarded, no-more, one-more, OneSale, never-sold, sold-once}
+use Rattle.ledger.specs.Promises.{Boarded, one-more, OneSale, sold-once}
 use Rattle.ledger.proofs.Steps.{or-false, Found, Did, keeps, opens, takes, declined-brings}
 
 -- ---- the first pass with a number

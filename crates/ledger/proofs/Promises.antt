@@ -1,19 +1,18 @@
 -- The ledger's theorems, over any list by induction on it. Of one entry, what the rule did to the passes in use; from a sound table the call does just that, and leaves a
 -- sound table.
 -- Assumes nothing.
-use Prim.Native.Nat.{ℕ, _+_, _-_, _≤_, _<_}
+use Prim.Native.Nat.{ℕ, _+_, _-_}
 use mathlib.Core.Path.{_≡_, refl, sym, ap, _∙_, subst}
-use mathlib.Core.Bool.{Bool, true, false, not, _||_, true≢false, false≢true}
-use mathlib.Core.List.{List, [], _∷_, _++_, append-assoc}
-use mathlib.Core.Logic.{_↔_}
+use mathlib.Core.Bool.{Bool, true, false, not, _||_, true≢false}
+use mathlib.Core.List.{List, [], _∷_, _++_}
 use mathlib.Core.Option.{Option, none, some}
 use native.Mathlib.Omega.{arith}
 use lib.Dec.{eqb, leb, ltb}
 use lib.ListN.{length, take}
-use borrow.Author.Tests.{eqb-true, eq-eqb, leb-true, le-leb}
+use borrow.Author.Tests.{eq-eqb, leb-true, le-leb}
 use Rattle.basics.specs.Ladder.{if_then_else_, need_or_then_}
 use Rattle.basics.specs.Outcome.{Outcome, outcome}
-use Rattle.basics.proofs.Ladder.{by-test, if-true, if-false, need-elim, need-passed, need-failed}
+use Rattle.basics.proofs.Ladder.{by-test, need-elim, need-passed, need-failed}
 use Rattle.columns.specs.Walks.{cellsFrom}
 use Rattle.entries.specs.declared.Entry.{Entry}
 use Rattle.entries.specs.declared.Entry.the-variants.{Null, Malformed, Sale, Boarding}
@@ -26,10 +25,10 @@ use Rattle.passes.proofs.Laws.{sound-brings, sound-so, in-use-length, holding-i
 use Rattle.ledger.specs.declared.Boarded.{Boarded}
 use Rattle.ledger.specs.Rule.{sold, opened, rideTaken, sell, boardPass, boardedAt, passOf, board, rule}
 use Rattle.ledger.specs.Ledger.{carriedOut, enter, replay, answers, isAccepted, accepted, ridesOf, boardingsOf, isOf, ridesSold, boardings, ofPass, allLeft, leftOn}
-use Rattle.ledger.specs.Promises.{ConservedForEach, ConservedForAll, Conservation, no-more, OneSale, never-sold, SoldOnce, Spent, SpentStays, StaysSound, SoundStays, FreshSound}
-use Rattle.ledger.specs.Promises.{InTwoParts, FrontThenRest, Alike, SamePassesAlike, numbers, SaleTooMany, EnterPromises}
-use Rattle.ledger.proofs.Steps.{or-false, Found, Did, keeps, opens, takes, declined-brings, did, InOrder, stays-in-order}
-use Rattle.ledger.proofs.OnePass.{passIn, itsOf, moved, leftIn, left-on, moved-conserves, Later, moved-later, IsSpent, moved-spent, spent-in, spent-out}
+use Rattle.ledger.specs.Promises.{ConservedForEach, ConservedForAll, Conservation, no-more, never-sold, SoldOnce, Spent, SpentStays, SoundStays, FreshSound}
+use Rattle.ledger.specs.Promises.{FrontThenRest, Alike, SamePassesAlike, numbers, SaleTooMany, EnterPromises}
+use Rattle.ledger.proofs.Steps.{Did, keeps, opens, takes, declined-brings, did, InOrder, stays-in-order}
+use Rattle.ledger.proofs.OnePass.{passIn, itsOf, moved, left-on, moved-conserves, Later, moved-later, IsSpent, moved-spent, spent-in, spent-out}
 
 -- ---- one entry
 

@@ -9,8 +9,7 @@ use native.Mathlib.Numerals.{add-one}
 use native.Mathlib.Omega.{arith}
 use lib.Dec.{eqb, leb, ltb}
 use lib.ListN.{length, set, length-append}
-use borrow.Author.Tests.{eqb-true, eqb-false, ne-eqb, leb-true, leb-false, le-leb, ltb-true, not-true}
-use Rattle.basics.specs.Ladder.{need_or_then_}
+use borrow.Author.Tests.{eqb-true, eqb-false, ne-eqb, leb-true, leb-false, le-leb, ltb-true}
 use Rattle.basics.specs.Outcome.{Outcome, outcome}
 use Rattle.basics.proofs.Ladder.{by-test, need-elim, both-true, and-true}
 use Rattle.columns.specs.Walks.{every}
@@ -22,8 +21,8 @@ use Rattle.passes.specs.declared.Pass.{Pass}
 use Rattle.passes.specs.Passes.{pass, mostPasses, numbersOf, among, placeOf, twice, ridesFit, lawful, isFull}
 use Rattle.passes.proofs.Laws.{place-here, place-later}
 use Rattle.ledger.specs.declared.Boarded.{Boarded}
-use Rattle.ledger.specs.declared.Boarded.the-variants.{Taken, Refused}
-use Rattle.ledger.specs.Rule.{sold, boarded, skipped, opened, sell, rideTaken, boardPass, boardedAt, passOf, board, rule}
+use Rattle.ledger.specs.declared.Boarded.the-variants.{Taken}
+use Rattle.ledger.specs.Rule.{sold, boarded, opened, sell, rideTaken, boardPass, boardedAt, passOf, board, rule}
 use Rattle.ledger.specs.Ledger.{isAccepted}
 use Rattle.ledger.specs.Promises.{numbers}
 

@@ -2,7 +2,6 @@
 ghost use mathlib.Core.Path.{_≡_};
 ghost use mathlib.Core.Bool.{true};
 ghost use Rattle.basics.specs.Outcome.{outcome};
-ghost use Rattle.entries.specs.Entry.{entryIn};
 ghost use Rattle.entries.specs.declared.Entry.the-variants.{Sale, Boarding};
 ghost use Rattle.passes.specs.Passes.{columns, table, inUse, sound};
 ghost use Rattle.ledger.specs.Rule.{sell, boardPass, board};
