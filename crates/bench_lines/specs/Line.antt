@@ -152,3 +152,19 @@ meaningOf line buffer =
     need not (isBad (playerOf name)) or meaning (startOf name rest) buffer then
     need isHex 72 rest or meaning Bad buffer then
     meaning (playerOf name) (bytesOf rest)
+
+-- ---- lines of a delivered list, a value to each
+
+-- Whether a line is a value, and what then stands in the buffer that is lent with it.
+pub record Listed : Type 0 where
+  pub isValue : Bool
+  pub buffer : List ℕ
+
+abbrev pub listed : (isValue : Bool) → (buffer : List ℕ) → Listed
+listed isValue buffer = record { isValue = isValue; buffer = buffer }
+
+-- 32 hex digits: their bytes. A line of another form leaves the buffer as it was.
+unfoldable pub listedIn : (line buffer : List ℕ) → Listed
+listedIn line buffer =
+    need isHex 32 line or listed false buffer then
+    listed true (bytesOf line)

@@ -4,7 +4,7 @@ ghost use mathlib.Core.Bool.{true};
 ghost use Prim.Native.Nat.{_*_, _≤_};
 ghost use lib.ListN.{length};
 ghost use Rattle.bench_lines.specs.Line.{firstWord, restOf, digitOf, areDigits, isHex, bytesOf, numberOf, isDecimal, valueOf};
-ghost use Rattle.bench_lines.specs.Line.{isLetter, isNumbered, ownOf, isBad, playerOf, startWith, startOf, meaning, meaningOf};
+ghost use Rattle.bench_lines.specs.Line.{isLetter, isNumbered, ownOf, isBad, playerOf, startWith, startOf, meaning, meaningOf, listed, listedIn};
 use basics::Value;
 
 // What a line asks for. The bytes of a packet stand in the buffer that was lent with the line.
@@ -231,4 +231,15 @@ pub fn command_of(line: &[u8], packet: &mut [u8; 36]) -> Command
     }
     put_bytes(rest, packet);
     player
+}
+
+// A line of a delivered list that is written out: 32 hex digits are a value, and its bytes go to the buffer.
+pub fn value_in(line: &[u8], value: &mut [u8; 16]) -> bool
+    ensures { λ r. ⌜ listed r (now (value .exit)) ≡ listedIn (now (line .entry)) (now (value .entry)) ⌝ }
+{
+    if !is_hex(32, line) {
+        return false;
+    }
+    put_bytes(line, value);
+    true
 }

@@ -202,4 +202,5 @@ every-call = record {
   of-learner-save = (λ _ _ _ _ _ _. seen (λ o. o .answer), λ _ _ _ _ _ _. seen (λ o. o .left .packet));
   of-learner-read-saved = (λ _ _ _ _ _ _. seen (λ o. o .answer), λ _ _ _ _ _ _. seen (λ o. (o .left .tables .rounds, o .left .tables .sets, o .left .tables .values)));
   of-command-of = (λ _ _ _ _ _ _. seen (λ o. o .command), λ _ _ _ _ _ _. seen (λ o. o .packet));
+  of-value-in = (λ _ _ _ _ _ _. seen (λ o. o .isValue), λ _ _ _ _ _ _. seen (λ o. o .buffer));
 }

@@ -117,6 +117,7 @@ use Rattle.learner_file.proofs.store_saved.Reads as store-saved
 use Rattle.learner_saved.proofs.myrthakel_learner_save.Reads as learner-save
 use Rattle.learner_saved.proofs.myrthakel_learner_read_saved.Reads as learner-read-saved
 use Rattle.bench_lines.proofs.command_of.Reads as command-of
+use Rattle.bench_lines.proofs.value_in.Reads as value-in
 
 -- Two outcomes on the same arguments that both keep the promise, each an answer and the parameters at exit, have the same answer
 abbrev pub OneAnswer : {Lifetimes : Type 0} {Entry Answer Exit : Lifetimes → Type 0} → (promise : (κs : Lifetimes) → Entry κs → Answer κs → Exit κs → Type 0) → Type 0
@@ -298,3 +299,4 @@ pub record EveryCall : Type 0 where
   pub of-learner-read-saved : OneAnswer learner-read-saved.Learnt × OneContent learner-read-saved.Learnt (λ κs exit. held-3 (exit .1 .1 .1))
   -- bench_lines
   pub of-command-of : OneAnswer command-of.Learnt × OneContent command-of.Learnt (λ κs exit. held-1 (exit .1))
+  pub of-value-in : OneAnswer value-in.Learnt × OneContent value-in.Learnt (λ κs exit. held-1 (exit .1))
