@@ -200,7 +200,7 @@ stays-in-order {ps} (takes {number} {day} {scan} at in-time newer some) fits bef
     let parts = both-true (every ridesFit (leftOnEach front)) (ridesFit (p .«rides_left») && every ridesFit (leftOnEach back))
     (sym (ap (every ridesFit) (map-append (λ r. r .«rides_left») front (p ∷ back)) ∙ every-append ridesFit (leftOnEach front) (leftOnEach (p ∷ back))) ∙ was .1) in
     let behind = both-true (ridesFit (p .«rides_left»)) (every ridesFit (leftOnEach back)) (parts .1) in
-    let fewer = le-leb (p .«rides_left» - 1) mostRides (omega (arith, leb-true (p .«rides_left») mostRides (behind .0))) in
+    let fewer = le-leb (q .«rides_left») mostRides (omega (arith, leb-true (p .«rides_left») mostRides (behind .0))) in
     record {
       in-order = lawful-so (front ++ q ∷ back) (ap twice same-numbers ∙ was .0)
           (ap (every ridesFit) (map-append (λ r. r .«rides_left») front (q ∷ back)) ∙ every-append ridesFit (leftOnEach front) (leftOnEach (q ∷ back)) ∙ and-true (parts .0) (and-true fewer (behind .1)));

@@ -115,7 +115,9 @@ fn has_twice(passes: &[u32], count: u32) -> bool
 {
     for place in 0..count {
         let number = number_at(passes, place as usize);
-        if find(passes, place + 1, count, number) < count {
+        let behind = place + 1;
+        let again = find(passes, behind, count, number);
+        if again < count {
             return true;
         }
     }

@@ -28,8 +28,8 @@ cast-number-at c = search needs
 number-at-requires : tie.Need-number-at-requires Inv-loop μ-loop
 number-at-requires c κs = search needs
 
-add-find : tie.Need-add-find Inv-loop μ-loop
-add-find c = search needs
+add-behind : tie.Need-add-behind Inv-loop μ-loop
+add-behind c = search needs
 
 find-requires : tie.Need-find-requires Inv-loop μ-loop
 find-requires c κs = search needs
@@ -66,7 +66,7 @@ has-twice-spec =
     loop-holds
     cast-number-at
     number-at-requires
-    add-find
+    add-behind
     find-requires
     returns
     add-place
