@@ -17,10 +17,11 @@ use Rattle.entries.specs.declared.Entry.{Entry}
 use Rattle.entries.specs.declared.Entry.the-variants.{Sale, Boarding}
 use Rattle.passes.specs.declared.Pass.{Pass}
 use Rattle.passes.specs.Passes.{numbersOf, among}
+use Rattle.passes.proofs.Laws.{or-false}
 use Rattle.ledger.specs.Rule.{opened, rideTaken}
 use Rattle.ledger.specs.Ledger.{isAccepted, ridesOf, boardingsOf, isOf, ridesSold, boardings, ofPass, leftOn}
 use Rattle.ledger.specs.Promises.{Boarded, one-more, OneSale, sold-once}
-use Rattle.ledger.proofs.Steps.{or-false, Found, Did, keeps, opens, takes, declined-brings}
+use Rattle.ledger.proofs.Steps.{Found, Did, keeps, opens, takes, declined-brings}
 
 -- ---- the first pass with a number
 

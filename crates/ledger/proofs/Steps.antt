@@ -19,22 +19,12 @@ use Rattle.entries.specs.Entry.{mostRides}
 use Rattle.entries.proofs.Laws.{FewRides}
 use Rattle.passes.specs.declared.Pass.{Pass}
 use Rattle.passes.specs.Passes.{pass, mostPasses, numbersOf, among, placeOf, twice, ridesFit, lawful, isFull}
-use Rattle.passes.proofs.Laws.{place-here, place-later}
+use Rattle.passes.proofs.Laws.{or-false, not-so, place-here, place-later}
 use Rattle.ledger.specs.declared.Boarded.{Boarded}
 use Rattle.ledger.specs.declared.Boarded.the-variants.{Taken}
 use Rattle.ledger.specs.Rule.{sold, boarded, opened, sell, rideTaken, boardPass, boardedAt, passOf, board, rule}
 use Rattle.ledger.specs.Ledger.{isAccepted}
 use Rattle.ledger.specs.Promises.{numbers}
-
--- ---- tests
-
-pub or-false : (a b : Bool) → a || b ≡ false → (a ≡ false) × (b ≡ false)
-or-false true b e = absurd (true≢false e)
-or-false false b e = (refl, e)
-
-not-so : (b : Bool) → not b ≡ true → b ≡ false
-not-so true e = sym e
-not-so false e = refl
 
 -- ---- where a number is found
 
