@@ -29,4 +29,5 @@ exported-calls = record {
   of-learner-first-hole = λ _ _ _ _ told. told;
   of-learner-save = λ _ _ _ _ told. told;
   of-learner-read-saved = λ _ _ _ _ told. told;
+  of-ledger-enter = λ _ _ _ _ told. told;
 }

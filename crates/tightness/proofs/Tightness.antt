@@ -26,6 +26,7 @@ use Rattle.learner_cell.specs.declared.Cell as learnerCells
 use Rattle.learner_rule.specs.declared.Ruled as learnerAnswers
 use Rattle.learner_rule.specs.declared.Ruled.the-variants as learners
 use Rattle.learner_rule.specs.Rule as learnerRule
+use Rattle.passes.specs.Passes.{Table}
 use Rattle.tightness.specs.Tightness.{EveryCall}
 
 equal : {A : Type 0} {one other same : A} → one ≡ same → other ≡ same → one ≡ other
@@ -87,6 +88,10 @@ vote-ruled (learners.Refused number) = refl
 -- a backup's six columns
 abbrev backupColumns : Tables → List ℕ × List ℕ × List ℕ × List ℕ × List ℕ × List ℕ
 backupColumns t = (t .rounds, t .phases, t .sets, t .bestVoteRounds, t .bestValues, t .ownValues)
+
+-- a ledger's four columns and its count
+abbrev ledgerColumns : Table → List ℕ × List ℕ × List ℕ × List ℕ × ℕ
+ledgerColumns t = (t .columns .passes, t .columns .ridesLeft, t .columns .lastDays, t .columns .lastScans, t .count)
 
 -- a packet's seven fields
 abbrev fieldNumbers : Fields → ℕ × (ℕ × ℕ × ℕ × ℕ × ℕ × ℕ)
@@ -203,4 +208,11 @@ every-call = record {
   of-learner-read-saved = (λ _ _ _ _ _ _. seen (λ o. o .answer), λ _ _ _ _ _ _. seen (λ o. (o .left .tables .rounds, o .left .tables .sets, o .left .tables .values)));
   of-command-of = (λ _ _ _ _ _ _. seen (λ o. o .command), λ _ _ _ _ _ _. seen (λ o. o .packet));
   of-value-in = (λ _ _ _ _ _ _. seen (λ o. o .isValue), λ _ _ _ _ _ _. seen (λ o. o .buffer));
+  of-entry-in = λ _ _ _ _ _ _. equal;
+  of-pass-at = λ _ _ _ _ _ _. equal;
+  of-store-pass = λ _ _ _ _ _ _. seen (λ c. (c .passes, c .ridesLeft, c .lastDays, c .lastScans));
+  of-passes-find = λ _ _ _ _ _ _. equal;
+  of-passes-is-sound = λ _ _ _ _ _ _. equal;
+  of-passes-is-full = λ _ _ _ _ _ _. equal;
+  of-ledger-enter = (λ _ _ _ _ _ _. seen (λ o. o .answer), λ _ _ _ _ _ _. seen (λ o. ledgerColumns (o .left)));
 }

@@ -63,6 +63,9 @@ use Rattle.learner_holes.proofs.myrthakel_learner_first_hole.Reads as learner-f
 use Rattle.learner_saved.specs.Saved.{save, readSaved}
 use Rattle.learner_saved.proofs.myrthakel_learner_save.Reads as learner-save
 use Rattle.learner_saved.proofs.myrthakel_learner_read_saved.Reads as learner-read-saved
+use Rattle.passes.specs.Passes as ledgers
+use Rattle.ledger.specs.Ledger.{enter}
+use Rattle.ledger.proofs.myrthakel_ledger_enter.Reads as ledger-enter
 use Rattle.tightness.specs.Tightness.{requested}
 
 -- Whatever keeps the promise keeps the equation: on all arguments, for every answer and all parameters at exit.
@@ -170,3 +173,8 @@ pub record ExportedCalls : Type 2 where
       λ _ (M, (N, (saved, (rounds, (sets, (values, _)))))) answer (_, (_, (_, (rounds′, (sets′, (values′, _)))))).
       outcome answer (lent (now saved) (learners.tables (now rounds′) (now sets′) (now values′)))
       ≡ readSaved (settings M N) (now saved) (learners.tables (now rounds) (now sets) (now values))
+  -- Runs have no ledger, which is fed by what a learner delivers: what is promised of it stands in ledger.
+  pub of-ledger-enter : Does ledger-enter.Learnt
+      λ _ (value, (passes, (ridesLeft, (lastDays, (lastScans, (count, _)))))) answer (_, (passes′, (ridesLeft′, (lastDays′, (lastScans′, (count′, _)))))).
+      outcome answer (ledgers.table (ledgers.columns (now passes′) (now ridesLeft′) (now lastDays′) (now lastScans′)) (now count′))
+      ≡ enter (now value) (ledgers.table (ledgers.columns (now passes) (now ridesLeft) (now lastDays) (now lastScans)) (now count))

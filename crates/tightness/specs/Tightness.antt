@@ -118,6 +118,13 @@ use Rattle.learner_saved.proofs.myrthakel_learner_save.Reads as learner-save
 use Rattle.learner_saved.proofs.myrthakel_learner_read_saved.Reads as learner-read-saved
 use Rattle.bench_lines.proofs.command_of.Reads as command-of
 use Rattle.bench_lines.proofs.value_in.Reads as value-in
+use Rattle.entries.proofs.entry_in.Reads as entry-in
+use Rattle.passes.proofs.pass_at.Reads as pass-at
+use Rattle.passes.proofs.store_pass.Reads as store-pass
+use Rattle.passes.proofs.find.Reads as passes-find
+use Rattle.passes.proofs.is_sound.Reads as passes-is-sound
+use Rattle.passes.proofs.is_full.Reads as passes-is-full
+use Rattle.ledger.proofs.myrthakel_ledger_enter.Reads as ledger-enter
 
 -- Two outcomes on the same arguments that both keep the promise, each an answer and the parameters at exit, have the same answer
 abbrev pub OneAnswer : {Lifetimes : Type 0} {Entry Answer Exit : Lifetimes → Type 0} → (promise : (κs : Lifetimes) → Entry κs → Answer κs → Exit κs → Type 0) → Type 0
@@ -144,6 +151,9 @@ held-3 lent = (now (lent .0), now (lent .1 .0), now (lent .1 .1 .0))
 
 abbrev pub held-4 : {A B C D Rest : Type 0} → RefT A × (RefT B × (RefT C × (RefT D × Rest))) → A × B × C × D
 held-4 lent = (now (lent .0), now (lent .1 .0), now (lent .1 .1 .0), now (lent .1 .1 .1 .0))
+
+abbrev pub held-5 : {A B C D E Rest : Type 0} → RefT A × (RefT B × (RefT C × (RefT D × (RefT E × Rest)))) → A × B × C × D × E
+held-5 lent = (now (lent .0), now (lent .1 .0), now (lent .1 .1 .0), now (lent .1 .1 .1 .0), now (lent .1 .1 .1 .1 .0))
 
 abbrev pub held-6 : {A B C D E F Rest : Type 0} → RefT A × (RefT B × (RefT C × (RefT D × (RefT E × (RefT F × Rest))))) → A × B × C × D × E × F
 held-6 lent = (now (lent .0), now (lent .1 .0), now (lent .1 .1 .0), now (lent .1 .1 .1 .0), now (lent .1 .1 .1 .1 .0), now (lent .1 .1 .1 .1 .1 .0))
@@ -300,3 +310,13 @@ pub record EveryCall : Type 0 where
   -- bench_lines
   pub of-command-of : OneAnswer command-of.Learnt × OneContent command-of.Learnt (λ κs exit. held-1 (exit .1))
   pub of-value-in : OneAnswer value-in.Learnt × OneContent value-in.Learnt (λ κs exit. held-1 (exit .1))
+  -- entries
+  pub of-entry-in : OneAnswer entry-in.Learnt
+  -- passes
+  pub of-pass-at : OneAnswer pass-at.Learnt
+  pub of-store-pass : OneContent store-pass.Learnt (λ κs exit. held-4 exit)
+  pub of-passes-find : OneAnswer passes-find.Learnt
+  pub of-passes-is-sound : OneAnswer passes-is-sound.Learnt
+  pub of-passes-is-full : OneAnswer passes-is-full.Learnt
+  -- ledger
+  pub of-ledger-enter : OneAnswer ledger-enter.Learnt × OneContent ledger-enter.Learnt (λ κs exit. held-5 (exit .1))
