@@ -1,1 +1,2 @@
 mod Computed
+mod Ledger

@@ -1,5 +1,6 @@
 pub mod Cases
 pub mod Frames
 pub mod Holes
+pub mod Ledger
 pub mod Orders
 pub mod WrittenOut
