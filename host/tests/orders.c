@@ -528,6 +528,56 @@ static uint32_t to_learner(uint32_t acceptors, buffer f)
     return unless_changed(answered, &before, &l, sizeof l);
 }
 
+/* Entering a value in a ledger. */
+
+typedef struct {
+    uint32_t passes[MYRTHAKEL_PASSES], last_scans[MYRTHAKEL_PASSES], count;
+    uint16_t last_days[MYRTHAKEL_PASSES];
+    uint8_t rides_left[MYRTHAKEL_PASSES];
+} lent_to_ledger;
+
+/* The passes 0, 1, .. in use, so many, each with so many rides left, last day 300 and last scan 5. */
+static uint32_t entering(uint32_t count, uint8_t rides_left, buffer value)
+{
+    lent_to_ledger before, l;
+    memset(&before, 0, sizeof before);
+    for (uint32_t i = 0; i < MYRTHAKEL_PASSES; i++) {
+        before.passes[i] = i;
+        before.rides_left[i] = rides_left;
+        before.last_days[i] = 300;
+        before.last_scans[i] = 5;
+    }
+    before.count = count;
+    memcpy(&l, &before, sizeof l);
+    uint32_t answered = myrthakel_ledger_enter(value.bytes, value.length, l.passes, MYRTHAKEL_PASSES, l.rides_left, MYRTHAKEL_PASSES,
+                                               l.last_days, MYRTHAKEL_PASSES, l.last_scans, MYRTHAKEL_PASSES, &l.count);
+    return unless_changed(answered, &before, &l, sizeof l);
+}
+
+static buffer entry(uint8_t kind, uint8_t rides, uint32_t pass, uint32_t day, uint8_t scan)
+{
+    return (buffer){{kind, rides, 0, 0, (uint8_t)(pass >> 8), (uint8_t)pass, (uint8_t)(day >> 8), (uint8_t)day, 0, 0, 0, scan}, MYRTHAKEL_VALUE_LENGTH};
+}
+
+static buffer sale(uint8_t rides, uint32_t pass) { return entry(MYRTHAKEL_SALE, rides, pass, 300, 0); }
+static buffer boarding(uint8_t rides, uint32_t pass, uint32_t day, uint8_t scan) { return entry(MYRTHAKEL_BOARDING, rides, pass, day, scan); }
+
+static void entering_order(void)
+{
+    row("30 before null: 41 rides left, null", entering(1, 41, zeros(16)), 30);
+    row("30 before 31: 41 rides left, 17 bytes", entering(1, 41, zeros(17)), 30);
+    row("null before 31: kind 0", entering(1, 0, zeros(16)), 111);
+    row("31 before 32: 41 rides, a known pass", entering(1, 0, sale(41, 0)), 31);
+    row("32 before 33: a known pass, 256 in use", entering(256, 0, sale(1, 255)), 32);
+    row("33: an unknown pass, 256 in use", entering(256, 0, sale(1, 256)), 33);
+    row("31 before 34: a boarding with rides 1, an unknown pass", entering(1, 0, boarding(1, 1, 300, 6)), 31);
+    row("34: an unknown pass", entering(1, 0, boarding(0, 1, 301, 5)), 34);
+    row("35 before 36: the day after the last, the last scan", entering(1, 1, boarding(0, 0, 301, 5)), 35);
+    row("35 before 37: the day after the last, no ride left", entering(1, 0, boarding(0, 0, 301, 6)), 35);
+    row("36 before 37: the last scan, no ride left", entering(1, 0, boarding(0, 0, 300, 5)), 36);
+    row("37: no ride left", entering(1, 0, boarding(0, 0, 300, 6)), 37);
+}
+
 int main(void)
 {
     call = "primary by a slice";
@@ -566,5 +616,7 @@ int main(void)
     on_frames(to_backup, promise(0, 0, 1));
     call = "learner on frames";
     on_frames(to_learner, vote(1, 0, 5, 0));
+    call = "entering a value";
+    entering_order();
     return told();
 }

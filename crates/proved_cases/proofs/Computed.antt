@@ -43,6 +43,10 @@ use Rattle.learner_delivery.specs.Delivery.{deliver}
 use Rattle.learner_holes.specs.Holes as holes
 use Rattle.learner_file.specs.File.{header, marked, sameSettings, cellBytes, cellIn, cellsBytes, roundsOf, setsOf, valuesOf}
 use Rattle.learner_saved.specs.Saved.{savedTable, save, readSaved}
+use Rattle.entries.specs.Entry as entries
+use Rattle.passes.specs.Passes as passes
+use Rattle.ledger.specs.Rule as ledgerRule
+use Rattle.ledger.specs.Ledger.{enter}
 use Rattle.proved_cases.specs.Cases.{cases, All}
 use Rattle.proved_cases.specs.Frames.{FrameCases}
 use Rattle.proved_cases.specs.Holes.{HoleCases}
@@ -64,6 +68,9 @@ unfolding ones numberAt withNumberAt if_then_else_ need_or_then_ ownerOf ownedOr
     cellBytes cellIn cellsBytes roundsOf setsOf valuesOf savedTable save readSaved
     sumOnto ipv4Checksum sentAs udpChecksum carriesUdp frameCheck sealed frameSeal frameOf prepareFramed framePrepare framed
     primaryFrame acceptorFrame backupFrame learnerFrame
+    entries.fieldsIn entries.isNull entries.isSale entries.isBoarding entries.entryOf entries.entryIn entries.fieldBytes
+    passes.holding passes.among passes.placeOf passes.twice passes.isFull passes.isSized passes.lawful passes.sound
+    ledgerRule.sell ledgerRule.boardPass ledgerRule.boardedAt ledgerRule.board ledgerRule.rule enter
 computed = (
   record {
     primary-fresh = refl;

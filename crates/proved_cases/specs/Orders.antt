@@ -1,8 +1,9 @@
 -- The orders of refusal as one table: for each call, and each two neighbours in its order, an input that has both faults and is answered by the earlier number.
--- N = 8, all cells of a table are alike, values are null and packets are for instance 0 unless said. No input has both of 8 and 17, since an instance not below N has no
--- cell, nor both of the primary's 17 and 12, nor of the learner's 10 and 13: there each of the two has a row with the number before them, and with the one behind. Where M
--- is 7, 9 is never given, since sender 7 breaks the packet table. The players' calls on frames have rows up to the packet's 2 and 3: from there on their
--- orders are the packet's.
+-- N = 8, all cells of a table are alike, values are null and packets are for instance 0 unless said. No input has both of 8 and 17, since an instance not
+-- below N has no cell, nor both of the primary's 17 and 12, nor of the learner's 10 and 13: there each of the two has a row with the number before them, and
+-- with the one behind. Nor has any both of the ledger's 34 and a number behind it, since of an unknown pass there is nothing to compare. Where M is 7, 9 is
+-- never given, since sender 7 breaks the packet table. The players' calls on frames have rows up to the packet's 2 and 3: from there on their orders are the
+-- packet's.
 -- Assumes nothing.
 use Prim.Native.Nat.{ℕ}
 use mathlib.Core.Path.{_≡_}
@@ -32,6 +33,10 @@ use Rattle.learner_port.specs.Port.{learnerFrame}
 use Rattle.learner_delivery.specs.Delivery.{deliver}
 use Rattle.learner_holes.specs.Holes as holes
 use Rattle.learner_saved.specs.Saved.{save, readSaved}
+use Rattle.columns.specs.Walks.{cellsFrom}
+use Rattle.entries.specs.Entry.{fields, fieldBytes}
+use Rattle.passes.specs.Passes as passes
+use Rattle.ledger.specs.Ledger.{enter}
 use Rattle.proved_cases.specs.Frames.{ethernet, ipv4}
 
 -- A row: what a call answers, and the number that the paper gives.
@@ -451,6 +456,47 @@ toBackup M frame = backupFrame (settings M 8) 1 47036 frame (backupTables 1 0) .
 abbrev toLearner : (M : ℕ) → (frame : List ℕ) → ℕ
 toLearner M frame = learnerFrame (settings M 8) 47036 frame (learnerTables 1) .answer
 
+-- ---- entering a value in a ledger: 30; null is skipped; 31; of a sale 32, 33; of a boarding 34, 35, 36, 37
+
+-- The passes 0, 1, .. in use, so many, each with so many rides left, last day 300 and last scan 5.
+abbrev entering : (count ridesLeft : ℕ) → (value : List ℕ) → ℕ
+entering count ridesLeft value =
+    enter value (passes.table (passes.columns (cellsFrom (λ place. place) 0 256) (replicate 256 ridesLeft) (replicate 256 300) (replicate 256 5)) count) .answer
+
+abbrev sale : (rides pass : ℕ) → List ℕ
+sale rides pass = fieldBytes (fields 1 rides pass 300 0 0)
+
+abbrev boarding : (rides pass day scan : ℕ) → List ℕ
+boarding rides pass day scan = fieldBytes (fields 2 rides pass day scan 0)
+
+abbrev enteringOrder : List Row
+enteringOrder =
+    -- 30 before null: 41 rides left, null
+    entering 1 41 (replicate 16 0) gives 30
+    -- 30 before 31: 41 rides left, 17 bytes
+    ∷ entering 1 41 (replicate 17 0) gives 30
+    -- null before 31: kind 0
+    ∷ entering 1 0 (replicate 16 0) gives 111
+    -- 31 before 32: 41 rides, a known pass
+    ∷ entering 1 0 (sale 41 0) gives 31
+    -- 32 before 33: a known pass, 256 in use
+    ∷ entering 256 0 (sale 1 255) gives 32
+    -- 33: an unknown pass, 256 in use
+    ∷ entering 256 0 (sale 1 256) gives 33
+    -- 31 before 34: a boarding with rides 1, an unknown pass
+    ∷ entering 1 0 (boarding 1 1 300 6) gives 31
+    -- 34: an unknown pass
+    ∷ entering 1 0 (boarding 0 1 301 5) gives 34
+    -- 35 before 36: the day after the last, the last scan
+    ∷ entering 1 1 (boarding 0 0 301 5) gives 35
+    -- 35 before 37: the day after the last, no ride left
+    ∷ entering 1 0 (boarding 0 0 301 6) gives 35
+    -- 36 before 37: the last scan, no ride left
+    ∷ entering 1 0 (boarding 0 0 300 5) gives 36
+    -- 37: no ride left
+    ∷ entering 1 0 (boarding 0 0 300 6) gives 37
+    ∷ []
+
 -- ---- all of them
 
 abbrev pub rows : List Row
@@ -458,6 +504,7 @@ rows =
     primaryOrder bySlice ++ primaryOrder byReference ++ acceptorOrder ++ backupOrder ++ startOrder ++ learnerOrder ++ answerOrder ++ walkOrders ++ readingBackOrder
     ++ writingOrder ++ readingIntoOrder ++ judging checking (frameWith request) ++ sealingOrder ++ framingOrder
     ++ onFrames toPrimary request ++ onFrames toAcceptor (propose 0 0) ++ onFrames toBackup (promise 0 0 1) ++ onFrames toLearner (vote 1 0 5 null)
+    ++ enteringOrder
 
 -- Each call answers the paper's number.
 abbrev pub Orders : Type 0
