@@ -1,16 +1,15 @@
 -- A table is sound exactly if no place of it has what refusal 30 names: a number stands twice just where two places have it, by induction on the places.
 -- Assumes nothing.
 use Prim.Native.Nat.{ℕ, zero, suc, _+_, _≤_, _<_}
-use mathlib.Core.Path.{_≡_, refl, sym, ap, _∙_, subst}
-use mathlib.Core.Bool.{true, false, not, _||_}
-use mathlib.Core.Logic.{_↔_}
+use mathlib.Core.Path.{_≡_, refl, sym, ap, _∙_}
+use mathlib.Core.Bool.{true, false, not}
 use native.Mathlib.Omega.{arith}
 use lib.Dec.{eqb}
 use borrow.Author.Tests.{eqb-false, ne-eqb, leb-true, le-leb}
 use Rattle.basics.proofs.Ladder.{both-true, and-true}
 use Rattle.columns.specs.Walks.{cellsFrom, every}
 use Rattle.columns.proofs.Walks.{here-or-elsewhere, every-passes, every-brings}
-use Rattle.passes.specs.Passes.{Table, numberIn, inUse, among, twice, ridesFit, lawful, sound}
+use Rattle.passes.specs.Passes.{Table, numberIn, among, twice, ridesFit, lawful, sound}
 use Rattle.passes.specs.Promises.{SoundTable, SoundExactly}
 use Rattle.passes.proofs.Laws.{or-false, not-so, Sound, sound-brings, sound-so, lawful-columns}
 
