@@ -20,7 +20,8 @@ use Rattle.entries.specs.Promises.{WellFormed, WriteThenRead, ReadThenWr
 
 -- ---- written and read
 
-fields-back : (kind rides pass day scan : ℕ) → pass < 256 ^ 4 → day < 256 ^ 2 → scan < 256 ^ 4 → entryIn (fieldBytes (fields kind rides pass day scan 0)) ≡ entryOf (fields kind rides pass day scan 0)
+fields-back : (kind rides pass day scan : ℕ) → pass < 256 ^ 4 → day < 256 ^ 2 → scan < 256 ^ 4
+    → entryIn (fieldBytes (fields kind rides pass day scan 0)) ≡ entryOf (fields kind rides pass day scan 0)
 unfolding entryIn fieldsIn fieldBytes numberAt need_or_then_
 fields-back kind rides pass day scan pass-fits day-fits scan-fits = λ i.
     entryOf (fields kind rides (bigEndian-toBytes 4 pass pass-fits i) (bigEndian-toBytes 2 day day-fits i) (bigEndian-toBytes 4 scan scan-fits i) 0)
@@ -48,8 +49,10 @@ module _ (value : List ℕ) (bytes : Bytes value) (long : length value ≡ entry
   bytes-back : fieldBytes read ≡ value
   unfolding fieldsIn fieldBytes
   bytes-back =
-      let field : (at w : ℕ) → at + w ≤ 16 → toBytes w (numberAt value at w) ≡ bytesAt value at w = λ at w inside. toBytes-numberAt value bytes at w (omega (arith, long)) in
-      (λ i. (getD value 0 0 ∷ getD value 1 0 ∷ []) ++ field 2 4 (omega arith) i ++ field 6 2 (omega arith) i ++ field 8 4 (omega arith) i ++ field 12 4 (omega arith) i)
+      let field : (at w : ℕ) → at + w ≤ 16 → toBytes w (numberAt value at w) ≡ bytesAt value at w =
+      λ at w inside. toBytes-numberAt value bytes at w (omega (arith, long)) in
+      (λ i. (getD value 0 0 ∷ getD value 1 0 ∷ [])
+      ++ field 2 4 (omega arith) i ++ field 6 2 (omega arith) i ++ field 8 4 (omega arith) i ++ field 12 4 (omega arith) i)
       ∙ written-out entryLength value long
 
   null-back : isNull read ≡ true → Back value Null
@@ -62,7 +65,8 @@ module _ (value : List ℕ) (bytes : Bytes value) (long : length value ≡ entry
       let d = both-true (eqb (f .kind) 0 && eqb (f .rides) 0) (eqb (f .pass) 0) (c .0) in
       let e = both-true (eqb (f .kind) 0) (eqb (f .rides) 0) (d .0) in
       let zero : (n : ℕ) → eqb n 0 ≡ true → 0 ≡ n = λ n is. sym (eqb-true n 0 is) in (
-        (λ i. fieldBytes (fields (zero (f .kind) (e .0) i) (zero (f .rides) (e .1) i) (zero (f .pass) (d .1) i) (zero (f .day) (c .1) i) (zero (f .scan) (b .1) i) (zero (f .rest) (a .1) i)))
+        (λ i. fieldBytes (fields (zero (f .kind) (e .0) i) (zero (f .rides) (e .1) i) (zero (f .pass) (d .1) i) (zero (f .day) (c .1) i)
+            (zero (f .scan) (b .1) i) (zero (f .rest) (a .1) i)))
             ∙ bytes-back,
         tt,
       )
@@ -75,7 +79,8 @@ module _ (value : List ℕ) (bytes : Bytes value) (long : length value ≡ entry
       let b = both-true (eqb (f .kind) 1 && leb 1 (f .rides) && leb (f .rides) mostRides) (eqb (f .scan) 0) (a .0) in
       let c = both-true (eqb (f .kind) 1 && leb 1 (f .rides)) (leb (f .rides) mostRides) (b .0) in
       let d = both-true (eqb (f .kind) 1) (leb 1 (f .rides)) (c .0) in (
-        (λ i. fieldBytes (fields (sym (eqb-true (f .kind) 1 (d .0)) i) (f .rides) (f .pass) (f .day) (sym (eqb-true (f .scan) 0 (b .1)) i) (sym (eqb-true (f .rest) 0 (a .1)) i)))
+        (λ i. fieldBytes (fields (sym (eqb-true (f .kind) 1 (d .0)) i) (f .rides) (f .pass) (f .day) (sym (eqb-true (f .scan) 0 (b .1)) i)
+            (sym (eqb-true (f .rest) 0 (a .1)) i)))
             ∙ bytes-back,
         (numberAt-lt value bytes 2 4, (leb-true 1 (f .rides) (d .1), (leb-true (f .rides) mostRides (c .1), numberAt-lt value bytes 6 2))),
       )
@@ -86,7 +91,8 @@ module _ (value : List ℕ) (bytes : Bytes value) (long : length value ≡ entry
       let f = read in
       let a = both-true (eqb (f .kind) 2 && eqb (f .rides) 0) (eqb (f .rest) 0) so in
       let b = both-true (eqb (f .kind) 2) (eqb (f .rides) 0) (a .0) in (
-        (λ i. fieldBytes (fields (sym (eqb-true (f .kind) 2 (b .0)) i) (sym (eqb-true (f .rides) 0 (b .1)) i) (f .pass) (f .day) (f .scan) (sym (eqb-true (f .rest) 0 (a .1)) i)))
+        (λ i. fieldBytes (fields (sym (eqb-true (f .kind) 2 (b .0)) i) (sym (eqb-true (f .rides) 0 (b .1)) i) (f .pass) (f .day) (f .scan)
+            (sym (eqb-true (f .rest) 0 (a .1)) i)))
             ∙ bytes-back,
         (numberAt-lt value bytes 2 4, (numberAt-lt value bytes 6 2, numberAt-lt value bytes 8 4)),
       )

@@ -1,5 +1,5 @@
--- What the rule does to one pass: nothing; it is opened, where it was unknown; or a ride is taken from it. A pass is seen as the first one with its number, so that nothing
--- here needs the passes to be lawful.
+-- What the rule does to one pass: nothing; it is opened, where it was unknown; or a ride is taken from it. A pass is seen as the first one with its number,
+-- so that nothing here needs the passes to be lawful.
 -- Assumes nothing.
 use Prim.Native.Nat.{ℕ, _+_, _≤_, _<_}
 use mathlib.Core.Path.{_≡_, refl, sym, ap, _∙_, subst}
@@ -97,7 +97,8 @@ moved-opened number other rides lastDay ps unknown =
     (subst (λ it. Moved number none it (ofPass number (e ∷ []))) (sym after) (subst (Moved number none (some (opened number rides lastDay))) its opened-now)))
     λ other-so. apart number e other-so (pass-not-last number ps p other-so)
 
-moved-ridden : (number other day scan : ℕ) (ps : List Pass) (at : Found other ps) → day ≤ at .it .«last_day» → at .it .«last_scan» < scan → 1 ≤ at .it .«rides_left»
+moved-ridden : (number other day scan : ℕ) (ps : List Pass) (at : Found other ps) → day ≤ at .it .«last_day» → at .it .«last_scan» < scan
+    → 1 ≤ at .it .«rides_left»
     → Moved number (passIn number ps) (passIn number (at .front ++ rideTaken (at .it) scan ∷ at .back)) (ofPass number (Boarding other day scan ∷ []))
 unfolding isOf
 moved-ridden number other day scan ps at in-time newer left =
@@ -111,7 +112,8 @@ moved-ridden number other day scan ps at in-time newer left =
     λ r as-p. pass-behind number (at .front) (r ∷ at .back) missing ∙ pass-first number r (at .back) (as-p ∙ at .is-it ∙ same) in
     let its = ap (λ n. Boarding n day scan ∷ []) (sym same) ∙ own number e same-so in
     subst (λ it. Moved number it (passIn number (at .front ++ q ∷ at .back)) (ofPass number (e ∷ []))) (sym (ap (passIn number) (at .splits) ∙ there p refl))
-    (subst (λ it. Moved number (some p) it (ofPass number (e ∷ []))) (sym (there q refl)) (subst (Moved number (some p) (some q)) its (ride-now in-time newer left))))
+    (subst (λ it. Moved number (some p) it (ofPass number (e ∷ []))) (sym (there q refl))
+    (subst (Moved number (some p) (some q)) its (ride-now in-time newer left))))
     λ other-so.
     let differs : eqb (p .number) number ≡ false = ap (λ n. eqb n number) (at .is-it) ∙ other-so in
     apart number e other-so (pass-apart number (at .front) q p (at .back) differs differs ∙ sym (ap (passIn number) (at .splits)))
@@ -139,7 +141,8 @@ left-on number (p ∷ ps) =
     if-false _ _ other ∙ left-on number ps ∙ sym (ap leftIn (if-false (some p) (passIn number ps) other))
 
 -- no ride is made or lost
-pub moved-conserves : {number : ℕ} {before after : Option Pass} {its : List Entry} → Moved number before after its → leftIn before + ridesSold its ≡ boardings its + leftIn after
+pub moved-conserves : {number : ℕ} {before after : Option Pass} {its : List Entry} → Moved number before after its
+    → leftIn before + ridesSold its ≡ boardings its + leftIn after
 unfolding ridesOf boardingsOf
 moved-conserves stays = omega arith
 moved-conserves opened-now = omega arith
@@ -150,7 +153,8 @@ abbrev pub Later : (number : ℕ) → Option Pass → List Entry → Type 0
 Later number none its = OneSale number its
 Later number (some p) its = Boarded number (p .«last_day») (p .«last_scan») its × (length its ≤ p .«rides_left»)
 
-pub moved-later : {number : ℕ} {before after : Option Pass} {its : List Entry} (later : List Entry) → Moved number before after its → Later number after later → Later number before (its ++ later)
+pub moved-later : {number : ℕ} {before after : Option Pass} {its : List Entry} (later : List Entry) → Moved number before after its
+    → Later number after later → Later number before (its ++ later)
 moved-later later stays so = so
 moved-later later opened-now so = sold-once (so .0) (so .1)
 moved-later later (ride-now in-time newer left) so = (one-more in-time newer (so .0), omega (arith, so .1, left))
@@ -172,7 +176,8 @@ spent-in number (p ∷ ps) known none-left =
     by-test (eqb (p .number) number)
     (λ same. subst IsSpent (sym (if-true (some p) (passIn number ps) same)) (sym (if-true (p .«rides_left») (leftOn number ps) same) ∙ none-left)) λ other.
     subst IsSpent (sym (if-false (some p) (passIn number ps) other))
-    (spent-in number ps (sym (ap (λ b. b || among number (numbersOf ps)) other) ∙ known) (sym (if-false (p .«rides_left») (leftOn number ps) other) ∙ none-left))
+    (spent-in number ps (sym (ap (λ b. b || among number (numbersOf ps)) other) ∙ known)
+    (sym (if-false (p .«rides_left») (leftOn number ps) other) ∙ none-left))
 
 pub spent-out : (number : ℕ) (ps : List Pass) → IsSpent (passIn number ps) → (among number (numbersOf ps) ≡ true) × (leftOn number ps ≡ 0)
 unfolding passIn among leftOn

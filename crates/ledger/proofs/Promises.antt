@@ -1,5 +1,5 @@
--- The ledger's theorems, over any list by induction on it. Of one entry, what the rule did to the passes in use; from a sound table the call does just that, and leaves a
--- sound table.
+-- The ledger's theorems, over any list by induction on it. Of one entry, what the rule did to the passes in use; from a sound table the call does just that,
+-- and leaves a sound table.
 -- Assumes nothing.
 use Prim.Native.Nat.{ℕ, _+_, _-_}
 use mathlib.Core.Path.{_≡_, refl, sym, ap, _∙_, subst}
@@ -24,9 +24,10 @@ use Rattle.passes.proofs.Laws as laws
 use Rattle.passes.proofs.Laws.{sound-brings, sound-so, in-use-length, holding-in-use, in-use-holding, holding-sound}
 use Rattle.ledger.specs.declared.Boarded.{Boarded}
 use Rattle.ledger.specs.Rule.{sold, opened, rideTaken, sell, boardPass, boardedAt, passOf, board, rule}
-use Rattle.ledger.specs.Ledger.{carriedOut, enter, replay, answers, isAccepted, accepted, ridesOf, boardingsOf, isOf, ridesSold, boardings, ofPass, allLeft, leftOn}
-use Rattle.ledger.specs.Promises.{ConservedForEach, ConservedForAll, Conservation, no-more, never-sold, SoldOnce, Spent, SpentStays, SoundStays, FreshSound}
-use Rattle.ledger.specs.Promises.{FrontThenRest, Alike, SamePassesAlike, numbers, SaleTooMany, EnterPromises}
+use Rattle.ledger.specs.Ledger.{carriedOut, enter, replay, answers, isAccepted, accepted, ridesOf, boardingsOf, isOf, ridesSold, boardings, ofPass}
+use Rattle.ledger.specs.Ledger.{allLeft, leftOn}
+use Rattle.ledger.specs.Promises.{ConservedForEach, ConservedForAll, Conservation, no-more, never-sold, SoldOnce, Spent, SpentStays, SoundStays}
+use Rattle.ledger.specs.Promises.{FreshSound, FrontThenRest, Alike, SamePassesAlike, numbers, SaleTooMany, EnterPromises}
 use Rattle.ledger.proofs.Steps.{Did, keeps, opens, takes, declined-brings, did, InOrder, stays-in-order}
 use Rattle.ledger.proofs.OnePass.{passIn, itsOf, moved, left-on, moved-conserves, Later, moved-later, IsSpent, moved-spent, spent-in, spent-out}
 
@@ -60,7 +61,8 @@ module _ (value : List ℕ) (t : Table) (sound-now : sound t ≡ true) where
 
   accepted-next : (later : List Entry) → (if isAccepted (enter value t .answer) then entryIn value ∷ later else later) ≡ now-accepted ++ later
   unfolding if_then_else_
-  accepted-next later = ap (λ o. if isAccepted (o .answer) then entryIn value ∷ later else later) (entered .as-ruled) ∙ either (isAccepted (rule (inUse t) (entryIn value) .answer))
+  accepted-next later = ap (λ o. if isAccepted (o .answer) then entryIn value ∷ later else later) (entered .as-ruled)
+      ∙ either (isAccepted (rule (inUse t) (entryIn value) .answer))
     where
       either : (b : Bool) → (if b then entryIn value ∷ later else later) ≡ (if b then entryIn value ∷ [] else []) ++ later
       either true = refl
@@ -82,7 +84,8 @@ of-pass-append number [] ys = refl
 of-pass-append number (x ∷ xs) ys =
     ap (λ later. if isOf number x then x ∷ later else later) (of-pass-append number xs ys) ∙ either (isOf number x) (ofPass number xs)
   where
-    either : (b : Bool) (its : List Entry) → (if b then x ∷ its ++ ofPass number ys else its ++ ofPass number ys) ≡ (if b then x ∷ its else its) ++ ofPass number ys
+    either : (b : Bool) (its : List Entry)
+        → (if b then x ∷ its ++ ofPass number ys else its ++ ofPass number ys) ≡ (if b then x ∷ its else its) ++ ofPass number ys
     either true its = refl
     either false its = refl
 
@@ -93,7 +96,8 @@ of-pass-chosen number false e = refl
 
 -- the accepted entries of a pass: those of the first entry, and then those of the rest
 its-next : (number : ℕ) (value : List ℕ) (values : List (List ℕ)) (t : Table) → sound t ≡ true
-    → ofPass number (accepted t (value ∷ values)) ≡ itsOf number (entryIn value) (rule (inUse t) (entryIn value)) ++ ofPass number (accepted (enter value t .left) values)
+    → ofPass number (accepted t (value ∷ values))
+    ≡ itsOf number (entryIn value) (rule (inUse t) (entryIn value)) ++ ofPass number (accepted (enter value t .left) values)
 unfolding accepted
 its-next number value values t sound-now =
     let later = accepted (enter value t .left) values in
@@ -134,7 +138,8 @@ did-conserves : {ps : List Pass} {e : Entry} {o : Outcome (List Pass)} → Did p
     allLeft ps + ridesSold its ≡ boardings its + allLeft (o .left)
 unfolding if_then_else_ ridesOf boardingsOf
 did-conserves {ps} (keeps {e} {answer} so) =
-    subst (λ b. allLeft ps + ridesSold (if b then e ∷ [] else []) ≡ boardings (if b then e ∷ [] else []) + allLeft ps) (sym (declined-brings answer so .not-accepted)) (omega arith)
+    subst (λ b. allLeft ps + ridesSold (if b then e ∷ [] else []) ≡ boardings (if b then e ∷ [] else []) + allLeft ps)
+    (sym (declined-brings answer so .not-accepted)) (omega arith)
 did-conserves {ps} (opens {number} {rides} {lastDay} unknown room) = omega (arith, left-append ps (opened number rides lastDay ∷ []))
 did-conserves {ps} (takes {number} {day} {scan} at in-time newer ride) =
     omega (
@@ -194,7 +199,8 @@ unfolding passIn
 sold-once-only t fresh values number =
     subst (λ ps. Later number (passIn number ps) (ofPass number (accepted t values))) (none-in-use t fresh) (all-later number t values (fresh-sound t fresh))
 
-still-spent : (number : ℕ) (t : Table) (values : List (List ℕ)) → sound t ≡ true → IsSpent (passIn number (inUse t)) → IsSpent (passIn number (inUse (replay t values)))
+still-spent : (number : ℕ) (t : Table) (values : List (List ℕ)) → sound t ≡ true → IsSpent (passIn number (inUse t))
+    → IsSpent (passIn number (inUse (replay t values)))
 unfolding replay
 still-spent number t [] sound-now spent = spent
 still-spent number t (v ∷ vs) sound-now spent =
@@ -274,7 +280,8 @@ module _ (ps : List Pass) (number rides lastDay : ℕ) where
   unfolding sell need_or_then_
   sells-full unknown full = rw (unknown, full)
 
-  pub sells-room : among number (numbersOf ps) ≡ false → isFull (length ps) ≡ false → sell ps number rides lastDay ≡ outcome sold (ps ++ opened number rides lastDay ∷ [])
+  pub sells-room : among number (numbersOf ps) ≡ false → isFull (length ps) ≡ false
+      → sell ps number rides lastDay ≡ outcome sold (ps ++ opened number rides lastDay ∷ [])
   unfolding sell need_or_then_
   sells-room unknown room = rw (unknown, room)
 
@@ -349,7 +356,8 @@ enter-promises value t = by-test (sound t) when-sound when-unsound
         record {
           numbers-are = ap (λ o. among (o .answer) numbers) so ∙ did-number done;
           keeps-all = λ declined. ap (λ o. o .left) so
-              ∙ ap (holding (t .columns)) (did-keep done (sym (ap (λ o. isAccepted (o .answer)) so) ∙ declined)) ∙ holding-in-use (t .columns) (fine .long) (t .count) (fine .few);
+              ∙ ap (holding (t .columns)) (did-keep done (sym (ap (λ o. isAccepted (o .answer)) so) ∙ declined))
+              ∙ holding-in-use (t .columns) (fine .long) (t .count) (fine .few);
           unsound-exactly = (
             λ told. absurd (true≢false (sym (eq-eqb (enter value t .answer) 30 told) ∙ ap (λ o. eqb (o .answer) 30) so ∙ did-not-30 done)),
             λ unsound. absurd (true≢false (sym sound-now ∙ unsound)),

@@ -1,5 +1,5 @@
--- What the rule does, of any passes and any entry: it keeps the passes, opens one behind them, or takes a ride from the first one with the number. The theorems go by these
--- three and not by the rule's text. With it, that lawful passes stay lawful.
+-- What the rule does, of any passes and any entry: it keeps the passes, opens one behind them, or takes a ride from the first one with the number. The
+-- theorems go by these three and not by the rule's text. With it, that lawful passes stay lawful.
 -- Assumes nothing.
 use Prim.Native.Nat.{ℕ, _+_, _-_, _≤_, _<_}
 use mathlib.Core.Path.{_≡_, refl, sym, ap, _∙_, subst}
@@ -110,8 +110,10 @@ did-board ps number day scan =
     need-elim comes-to (ltb (p .«last_scan») scan) _ _ (keeps refl) λ newer.
     need-elim comes-to (leb 1 (p .«rides_left»)) _ _ (keeps refl) λ some.
     let is-it = at .reads in
-    subst (λ left. Did ps (Boarding number day scan) (outcome boarded left)) (sym (at .stores (rideTaken p scan) ∙ ap (λ q. at .front ++ rideTaken q scan ∷ at .back) is-it))
-    (takes at (subst (λ q. day ≤ q .«last_day») is-it (leb-true day (p .«last_day») in-time)) (subst (λ q. q .«last_scan» < scan) is-it (ltb-true (p .«last_scan») scan newer))
+    subst (λ left. Did ps (Boarding number day scan) (outcome boarded left))
+    (sym (at .stores (rideTaken p scan) ∙ ap (λ q. at .front ++ rideTaken q scan ∷ at .back) is-it))
+    (takes at (subst (λ q. day ≤ q .«last_day») is-it (leb-true day (p .«last_day») in-time))
+    (subst (λ q. q .«last_scan» < scan) is-it (ltb-true (p .«last_scan») scan newer))
     (subst (λ q. 1 ≤ q .«rides_left») is-it (leb-true 1 (p .«rides_left») some)))
 
 pub did : (ps : List Pass) (e : Entry) → Did ps e (rule ps e)
@@ -188,11 +190,13 @@ stays-in-order {ps} (takes {number} {day} {scan} at in-time newer some) fits bef
     let same-numbers : numbersOf (front ++ q ∷ back) ≡ numbersOf (front ++ p ∷ back) =
     map-append (λ r. r .number) front (q ∷ back) ∙ sym (map-append (λ r. r .number) front (p ∷ back)) in
     let parts = both-true (every ridesFit (leftOnEach front)) (ridesFit (p .«rides_left») && every ridesFit (leftOnEach back))
-    (sym (ap (every ridesFit) (map-append (λ r. r .«rides_left») front (p ∷ back)) ∙ every-append ridesFit (leftOnEach front) (leftOnEach (p ∷ back))) ∙ was .1) in
+    (sym (ap (every ridesFit) (map-append (λ r. r .«rides_left») front (p ∷ back)) ∙ every-append ridesFit (leftOnEach front) (leftOnEach (p ∷ back)))
+    ∙ was .1) in
     let behind = both-true (ridesFit (p .«rides_left»)) (every ridesFit (leftOnEach back)) (parts .1) in
     let fewer = le-leb (q .«rides_left») mostRides (omega (arith, leb-true (p .«rides_left») mostRides (behind .0))) in
     record {
       in-order = lawful-so (front ++ q ∷ back) (ap twice same-numbers ∙ was .0)
-          (ap (every ridesFit) (map-append (λ r. r .«rides_left») front (q ∷ back)) ∙ every-append ridesFit (leftOnEach front) (leftOnEach (q ∷ back)) ∙ and-true (parts .0) (and-true fewer (behind .1)));
+          (ap (every ridesFit) (map-append (λ r. r .«rides_left») front (q ∷ back)) ∙ every-append ridesFit (leftOnEach front) (leftOnEach (q ∷ back))
+          ∙ and-true (parts .0) (and-true fewer (behind .1)));
       few = omega (arith, length-append front (p ∷ back), length-append front (q ∷ back), ap length (at .splits), before .few);
     }

@@ -1,4 +1,5 @@
--- The ways out of a sale, of a boarding and of the call, by the tests that led there. A table that holds the passes in use is as it came, so a refusal leaves it.
+-- The ways out of a sale, of a boarding and of the call, by the tests that led there. A table that holds the passes in use is as it came, so a refusal leaves
+-- it.
 -- Assumes nothing.
 use Prim.Native.Nat.{ℕ, _+_, _-_, _≤_, _<_}
 use mathlib.Core.Path.{_≡_, sym, ap, _∙_}

@@ -1,5 +1,5 @@
--- What is promised of the ledger: no ride is made or lost, and none is taken from another pupil's pass; a pass is sold once, and boarded no more often than it was sold for;
--- and what the call answers and leaves.
+-- What is promised of the ledger: no ride is made or lost, and none is taken from another pupil's pass; a pass is sold once, and boarded no more often than
+-- it was sold for; and what the call answers and leaves.
 -- Assumes nothing.
 use Prim.Native.Nat.{ℕ, _+_, _≤_, _<_}
 use mathlib.Core.Path.{_≡_}
@@ -47,7 +47,8 @@ pub data Boarded (number lastDay : ℕ) : (lastScan : ℕ) → List Entry → Ty
 -- All that is accepted of a pass: nothing, or one sale and then boardings, at most as many as it says. So a single-ride pass carries one pupil.
 pub data OneSale (number : ℕ) : List Entry → Type 0 where
   never-sold : OneSale number []
-  sold-once : {rides lastDay : ℕ} {later : List Entry} → Boarded number lastDay 0 later → length later ≤ rides → OneSale number (Sale number rides lastDay ∷ later)
+  sold-once : {rides lastDay : ℕ} {later : List Entry} → Boarded number lastDay 0 later → length later ≤ rides
+      → OneSale number (Sale number rides lastDay ∷ later)
 
 -- From the fresh table that is so of each pass.
 abbrev pub SoldOnce : Type 0

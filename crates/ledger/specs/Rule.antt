@@ -1,5 +1,5 @@
--- The ledger's rule, of an entry and the passes in use. "Refusals, in order: 30 ..; 31 malformed entry; for a sale 32 pass exists, 33 table full; for a boarding 34 unknown pass,
--- 35 day past, 36 scan not newer, 37 no ride left." 30 is the table's, and told before.
+-- The ledger's rule, of an entry and the passes in use. "Refusals, in order: 30 ..; 31 malformed entry; for a sale 32 pass exists, 33 table full; for a
+-- boarding 34 unknown pass, 35 day past, 36 scan not newer, 37 no ride left." 30 is the table's, and told before.
 -- Assumes nothing.
 use Prim.Native.Nat.{ℕ, _-_}
 use mathlib.Core.Bool.{not}

@@ -34,8 +34,10 @@ fn sell(
     requires { let before = columns (now passes) (now «rides_left») (now «last_days») (now «last_scans») in
         ⌜ sound (table before (now count)) ≡ true ⌝ }
     ensures { λ r.
-        let before = table (columns (now (passes .entry)) (now («rides_left» .entry)) (now («last_days» .entry)) (now («last_scans» .entry))) (now (count .entry)) in
-        let after = table (columns (now (passes .exit)) (now («rides_left» .exit)) (now («last_days» .exit)) (now («last_scans» .exit))) (now (count .exit)) in
+        let entered = columns (now (passes .entry)) (now («rides_left» .entry)) (now («last_days» .entry)) (now («last_scans» .entry)) in
+        let left = columns (now (passes .exit)) (now («rides_left» .exit)) (now («last_days» .exit)) (now («last_scans» .exit)) in
+        let before = table entered (now (count .entry)) in
+        let after = table left (now (count .exit)) in
         ⌜ outcome r after ≡ carriedOut before (sell (inUse before) number rides «last_day») ⌝ }
 {
     let in_use = *count;
@@ -132,8 +134,10 @@ pub extern "C" fn myrthakel_ledger_enter(
     count: &mut u32,
 ) -> u32
     ensures { λ r.
-        let before = table (columns (now (passes .entry)) (now («rides_left» .entry)) (now («last_days» .entry)) (now («last_scans» .entry))) (now (count .entry)) in
-        let after = table (columns (now (passes .exit)) (now («rides_left» .exit)) (now («last_days» .exit)) (now («last_scans» .exit))) (now (count .exit)) in
+        let entered = columns (now (passes .entry)) (now («rides_left» .entry)) (now («last_days» .entry)) (now («last_scans» .entry)) in
+        let left = columns (now (passes .exit)) (now («rides_left» .exit)) (now («last_days» .exit)) (now («last_scans» .exit)) in
+        let before = table entered (now (count .entry)) in
+        let after = table left (now (count .exit)) in
         ⌜ outcome r after ≡ enter (now (value .entry)) before ⌝ }
 {
     let in_use = *count;

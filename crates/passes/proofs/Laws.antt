@@ -1,5 +1,5 @@
--- Laws of the ledger's table: its two views, as columns and as the list of passes in use, agree; what is stored shows in both; and what a sound table brings. A column is a
--- front of as many numbers as there are passes, and a rest that stays, so each law is one about fronts, said once for any column.
+-- Laws of the ledger's table: its two views, as columns and as the list of passes in use, agree; what is stored shows in both; and what a sound table brings.
+-- A column is a front of as many numbers as there are passes, and a rest that stays, so each law is one about fronts, said once for any column.
 -- Assumes nothing.
 use Prim.Native.Nat.{ℕ, zero, suc, _+_, _-_, _≤_, _<_}
 use mathlib.Core.Path.{_≡_, refl, sym, ap, _∙_}
@@ -15,8 +15,8 @@ use Rattle.numbers.proofs.Fronts.{length-front, front-next}
 use Rattle.basics.proofs.Ladder.{by-test, if-true, if-false, both-true, and-true, or-left, or-right}
 use Rattle.columns.specs.Walks.{cellsFrom, every}
 use Rattle.passes.specs.declared.Pass.{Pass}
-use Rattle.passes.specs.Passes.{pass, Columns, columns, Table, table, numberIn, passAt, withPass, inUse, holding, mostPasses, numbersOf, among, placeOf, twice}
-use Rattle.passes.specs.Passes.{ridesFit, lawful, isSized, sized, sound, Fresh}
+use Rattle.passes.specs.Passes.{pass, Columns, columns, Table, table, numberIn, passAt, withPass, inUse, holding, mostPasses, numbersOf, among}
+use Rattle.passes.specs.Passes.{placeOf, twice, ridesFit, lawful, isSized, sized, sound, Fresh}
 
 -- ---- tests
 
@@ -55,7 +55,8 @@ module _ {Cell : Type 0} where
   cells-of-list at none from [] same = refl
   cells-of-list at none from (c ∷ cs) same =
       let first : at from ≡ c = ap at {x = from} {y = from + 0} (omega arith) ∙ same 0 (omega arith) in
-      let others = cells-of-list at none (suc from) cs λ place low. ap at {x = suc from + place} {y = from + suc place} (omega arith) ∙ same (suc place) (omega arith) in
+      let others = cells-of-list at none (suc from) cs λ place low. ap at {x = suc from + place} {y = from + suc place} (omega arith)
+      ∙ same (suc place) (omega arith) in
       λ i. first i ∷ others i
 
 -- ---- numbers
@@ -107,7 +108,8 @@ module _ (column : List ℕ) where
     pub front-longer : (p : Pass) → length ps < length column → withFront column (map part (ps ++ p ∷ [])) ≡ set (withFront column front) (length ps) (part p)
     front-longer p room =
         ap (withFront column) (map-append part ps (p ∷ []))
-        ∙ sym (front-next column front (part p ∷ []) (omega (arith, length-map ps part))) ∙ ap (λ n. set (withFront column front) n (part p)) (length-map ps part)
+        ∙ sym (front-next column front (part p ∷ []) (omega (arith, length-map ps part)))
+        ∙ ap (λ n. set (withFront column front) n (part p)) (length-map ps part)
 
     -- another pass at a place
     pub front-set : (place : ℕ) (p : Pass) → place < length ps → withFront column (map part (set ps place p)) ≡ set (withFront column front) place (part p)
@@ -223,8 +225,10 @@ module _ (c : Columns) (long : Sized c) where
       λ column part reads full. ap (withFront column) (map-cells part (passAt c) 0 count ∙ ap (λ at. cellsFrom at 0 count) (λ i k. reads k i))
       ∙ front-as-it-stands column count (omega (arith, full)) in
       λ i. table
-      (columns (stays (c .passes) (λ p. p .number) (λ k. refl) (long .of-passes) i) (stays (c .ridesLeft) (λ p. p .«rides_left») (λ k. refl) (long .of-rides-left) i)
-      (stays (c .lastDays) (λ p. p .«last_day») (λ k. refl) (long .of-last-days) i) (stays (c .lastScans) (λ p. p .«last_scan») (λ k. refl) (long .of-last-scans) i))
+      (columns (stays (c .passes) (λ p. p .number) (λ k. refl) (long .of-passes) i)
+      (stays (c .ridesLeft) (λ p. p .«rides_left») (λ k. refl) (long .of-rides-left) i)
+      (stays (c .lastDays) (λ p. p .«last_day») (λ k. refl) (long .of-last-days) i)
+      (stays (c .lastScans) (λ p. p .«last_scan») (λ k. refl) (long .of-last-scans) i))
       (in-use-length (table c count) i)
 
   module _ (ps : List Pass) where

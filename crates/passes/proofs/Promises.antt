@@ -15,7 +15,8 @@ use Rattle.passes.proofs.Laws.{or-false, not-so, Sound, sound-brings, s
 
 module _ (at : (place : ℕ) → ℕ) where
   -- a number that is not among those from a place on stands at none of these places
-  missing-there : (number from count : ℕ) → among number (cellsFrom at from count) ≡ false → (place : ℕ) → from ≤ place → place < from + count → at place ≡ number → ⊥
+  missing-there : (number from count : ℕ) → among number (cellsFrom at from count) ≡ false → (place : ℕ) → from ≤ place → place < from + count
+      → at place ≡ number → ⊥
   unfolding among cellsFrom
   missing-there number from zero missing place least low = λ same. omega arith
   missing-there number from (suc count) missing place least low =
@@ -23,11 +24,16 @@ module _ (at : (place : ℕ) → ℕ) where
       here-or-elsewhere (λ k. at k ≡ number → ⊥) from place (eqb-false (at from) number (parts .0)) λ other.
       missing-there number (suc from) count (parts .1) place (omega (arith, other)) (omega arith)
 
-  missing-so : (number from count : ℕ) → ((place : ℕ) → from ≤ place → place < from + count → at place ≡ number → ⊥) → among number (cellsFrom at from count) ≡ false
+  missing-so : (number from count : ℕ) → ((place : ℕ) → from ≤ place → place < from + count → at place ≡ number → ⊥)
+      → among number (cellsFrom at from count) ≡ false
   unfolding among cellsFrom
   missing-so number from zero nowhere = refl
   missing-so number from (suc count) nowhere =
-      rw (ne-eqb (at from) number (nowhere from (omega arith) (omega arith)), missing-so number (suc from) count λ place least low. nowhere place (omega arith) (omega arith))
+      rw (
+        ne-eqb (at from) number (nowhere from (omega arith) (omega arith)),
+        missing-so number (suc from) count
+            λ place least low. nowhere place (omega arith) (omega arith),
+      )
 
   -- no two places have the same number
   abbrev Distinct : (from count : ℕ) → Type 0
@@ -56,14 +62,16 @@ sound-forth t so =
     let fine = sound-brings t so in
     let numbers = numberIn (t .columns .passes) in
     let rides = numberIn (t .columns .ridesLeft) in
-    let parts = both-true (not (twice (cellsFrom numbers 0 (t .count)))) (every ridesFit (cellsFrom rides 0 (t .count))) (sym (lawful-columns (t .columns) (t .count)) ∙ fine .in-order) in
+    let parts = both-true (not (twice (cellsFrom numbers 0 (t .count)))) (every ridesFit (cellsFrom rides 0 (t .count)))
+    (sym (lawful-columns (t .columns) (t .count)) ∙ fine .in-order) in
     record {
       of-passes = fine .long .of-passes;
       of-rides-left = fine .long .of-rides-left;
       of-last-days = fine .long .of-last-days;
       of-last-scans = fine .long .of-last-scans;
       few = fine .few;
-      none-twice = λ first second order low. once-there numbers 0 (t .count) (not-so (twice (cellsFrom numbers 0 (t .count))) (parts .0)) first second (omega arith) order (omega arith);
+      none-twice = λ first second order low. once-there numbers 0 (t .count) (not-so (twice (cellsFrom numbers 0 (t .count))) (parts .0)) first second
+          (omega arith) order (omega arith);
       rides-fit = λ place low. leb-true _ _ (every-brings rides ridesFit 0 (t .count) (parts .1) place (omega arith) (omega arith));
     }
 

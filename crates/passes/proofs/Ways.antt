@@ -39,7 +39,8 @@ module _ (at : (place : ℕ) → ℕ) (place count : ℕ) where
       abbrev behind : ℕ
       behind = place + 1
 
-      twice-next : (b : Bool) → among number (cellsLeft at behind count) ≡ b → twice (cellsLeft at place count) ≡ (if b then true else twice (cellsLeft at behind count))
+      twice-next : (b : Bool) → among number (cellsLeft at behind count) ≡ b
+          → twice (cellsLeft at place count) ≡ (if b then true else twice (cellsLeft at behind count))
       unfolding twice if_then_else_
       twice-next true so = rw (cells-next at place count inside, ← number-so, so)
       twice-next false so = rw (cells-next at place count inside, ← number-so, so)

@@ -1,5 +1,5 @@
--- The ledger's lent table: a count of the passes in use and four columns of 256. It is looked at in two ways: as columns, and as the list of the passes in use, in order of
--- sale. Places past the count are not looked at and not written.
+-- The ledger's lent table: a count of the passes in use and four columns of 256. It is looked at in two ways: as columns, and as the list of the passes in
+-- use, in order of sale. Places past the count are not looked at, and a sale alone writes the first of them.
 -- Assumes nothing.
 use Prim.Native.Nat.{ℕ, _+_}
 use mathlib.Core.Path.{_≡_}
@@ -46,7 +46,8 @@ passAt c place = pass (numberIn (c .passes) place) (numberIn (c .ridesLeft) plac
 
 abbrev pub withPass : Columns → (place : ℕ) → Pass → Columns
 withPass c place p =
-    columns (set (c .passes) place (p .number)) (set (c .ridesLeft) place (p .«rides_left»)) (set (c .lastDays) place (p .«last_day»)) (set (c .lastScans) place (p .«last_scan»))
+    columns (set (c .passes) place (p .number)) (set (c .ridesLeft) place (p .«rides_left»)) (set (c .lastDays) place (p .«last_day»))
+    (set (c .lastScans) place (p .«last_scan»))
 
 -- ---- as a list of passes
 

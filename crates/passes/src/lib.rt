@@ -1,4 +1,4 @@
-// The ledger's lent table: a count of the passes in use, and four columns of 256. Places past the count are not looked at and not written.
+// The ledger's lent table: a count of the passes in use, and four columns of 256. Places past the count are not looked at.
 ghost use mathlib.Core.Path.{_≡_};
 ghost use Prim.Native.Nat.{_+_, _-_};
 ghost use lib.ListN.{set};

@@ -24,13 +24,15 @@ returns-3 : tie.Need-returns-3
 returns-3 c =
     let sale = c .before .before in
     let null = sale .before .before in
-    is-boarding _ _ (null .before .is-null .ensures) (null .if1 .left) _ (sale .before .is-sale .ensures) (sale .if2 .left) _ (c .before .is-boarding .ensures) (c .if3 .taken)
+    is-boarding _ _ (null .before .is-null .ensures) (null .if1 .left) _ (sale .before .is-sale .ensures) (sale .if2 .left) _
+    (c .before .is-boarding .ensures) (c .if3 .taken)
 
 returns-4 : tie.Need-returns-4
 returns-4 c =
     let sale = c .before .before in
     let null = sale .before .before in
-    is-malformed _ _ (null .before .is-null .ensures) (null .if1 .left) _ (sale .before .is-sale .ensures) (sale .if2 .left) _ (c .before .is-boarding .ensures) (c .if3 .left)
+    is-malformed _ _ (null .before .is-null .ensures) (null .if1 .left) _ (sale .before .is-sale .ensures) (sale .if2 .left) _
+    (c .before .is-boarding .ensures) (c .if3 .left)
 
 pub entry-of-spec : {M : Type 1} → statement M
 entry-of-spec = tie.close (tie.spec is-null-requires returns is-sale-requires returns-2 is-boarding-requires returns-3 returns-4)

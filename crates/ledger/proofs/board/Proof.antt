@@ -59,7 +59,8 @@ returns-2 c =
     let known = read .before .before .before .before .before in
     let found = known .before in
     let start = found .before .before .before .before .before .before in
-    boarding-taken _ _ (start .pre) _ _ (found .find .ensures) _ _ (known .if1 .left) _ (read .pass-at .ensures) _ (ruled .board-pass .ensures) _ (told .next .given .1)
+    boarding-taken _ _ (start .pre) _ _ (found .find .ensures) _ _ (known .if1 .left) _ (read .pass-at .ensures) _ (ruled .board-pass .ensures) _
+    (told .next .given .1)
     _ (stored .store-pass .ensures)
 
 same-length-6 : tie.Need-same-length-6
@@ -82,7 +83,8 @@ returns-3 c =
     let known = read .before .before .before .before .before in
     let found = known .before in
     let start = found .before .before .before .before .before .before in
-    boarding-refused _ _ (start .pre) _ _ (found .find .ensures) _ _ (known .if1 .left) _ (read .pass-at .ensures) _ (ruled .board-pass .ensures) _ (told .refusal .given .1)
+    boarding-refused _ _ (start .pre) _ _ (found .find .ensures) _ _ (known .if1 .left) _ (read .pass-at .ensures) _ (ruled .board-pass .ensures) _
+    (told .refusal .given .1)
 
 pub board-spec : {M : Type 1} → statement M
 board-spec =

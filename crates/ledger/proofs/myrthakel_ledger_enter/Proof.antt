@@ -122,7 +122,8 @@ returns-5 c =
     let told = ruled .before .before .before .before .before .before in
     let read = told .before .before in
     let judged = read .before in
-    entry-boarding _ _ _ (judged .before .is-sound .ensures) (judged .if1 .left) _ (read .entry-in .ensures) _ _ _ _ (told .pass2 .given .1) (ruled .board .ensures)
+    entry-boarding _ _ _ (judged .before .is-sound .ensures) (judged .if1 .left) _ (read .entry-in .ensures) _ _ _ _ (told .pass2 .given .1)
+    (ruled .board .ensures)
 
 pub myrthakel-ledger-enter-spec : {M : Type 1} → statement M
 myrthakel-ledger-enter-spec =

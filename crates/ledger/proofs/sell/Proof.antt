@@ -59,7 +59,8 @@ returns-3 c =
     let unknown = room .before .before in
     let found = unknown .before in
     let start = found .before .before .before .before .before .before .before in
-    sale-taken _ _ (start .pre) _ _ (found .find .ensures) _ _ (unknown .if1 .left) _ (room .before .is-full .ensures) (room .if2 .left) _ (stored .store-pass .ensures)
+    sale-taken _ _ (start .pre) _ _ (found .find .ensures) _ _ (unknown .if1 .left) _ (room .before .is-full .ensures) (room .if2 .left) _
+    (stored .store-pass .ensures)
 
 pub sell-spec : {M : Type 1} → statement M
 sell-spec =

@@ -29,7 +29,8 @@ returns-4 : tie.Need-returns-4
 returns-4 c =
     let once = c .before in
     let few = once .before .before in
-    judged-by-rides _ _ _ (few .before .before .is-sized .ensures) (few .before .if1 .left) (few .if2 .left) _ (once .before .has-twice .ensures) (once .if3 .left)
+    judged-by-rides _ _ _ (few .before .before .is-sized .ensures) (few .before .if1 .left) (few .if2 .left) _ (once .before .has-twice .ensures)
+    (once .if3 .left)
     _ (c .rides-fit .ensures)
 
 pub is-sound-spec : {M : Type 1} → statement M

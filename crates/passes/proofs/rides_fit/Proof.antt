@@ -32,7 +32,8 @@ byte-at-requires c κs = search needs
 returns : tie.Need-returns Inv-loop μ-loop
 returns c =
     let turn = c .before .before in
-    every-stops _ ridesFit _ _ (turn .loop-test .taken) _ (c .before .byte-at .ensures) _ refl (ap not (lt-leb _ _ (c .if1 .taken))) ∙ sym (turn .before .loop .inv .1)
+    every-stops _ ridesFit _ _ (turn .loop-test .taken) _ (c .before .byte-at .ensures) _ refl (ap not (lt-leb _ _ (c .if1 .taken)))
+    ∙ sym (turn .before .loop .inv .1)
 
 add-place : tie.Need-add-place Inv-loop μ-loop
 add-place c = search needs
