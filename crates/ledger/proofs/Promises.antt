@@ -272,15 +272,15 @@ did-keep (opens unknown room) declined = absurd (true≢false declined)
 did-keep (takes at in-time newer ride) declined = absurd (true≢false declined)
 
 module _ (ps : List Pass) (number rides lastDay : ℕ) where
-  pub sells-known : among number (numbersOf ps) ≡ true → sell ps number rides lastDay ≡ outcome 32 ps
+  sells-known : among number (numbersOf ps) ≡ true → sell ps number rides lastDay ≡ outcome 32 ps
   unfolding sell need_or_then_
   sells-known known = rw known
 
-  pub sells-full : among number (numbersOf ps) ≡ false → isFull (length ps) ≡ true → sell ps number rides lastDay ≡ outcome 33 ps
+  sells-full : among number (numbersOf ps) ≡ false → isFull (length ps) ≡ true → sell ps number rides lastDay ≡ outcome 33 ps
   unfolding sell need_or_then_
   sells-full unknown full = rw (unknown, full)
 
-  pub sells-room : among number (numbersOf ps) ≡ false → isFull (length ps) ≡ false
+  sells-room : among number (numbersOf ps) ≡ false → isFull (length ps) ≡ false
       → sell ps number rides lastDay ≡ outcome sold (ps ++ opened number rides lastDay ∷ [])
   unfolding sell need_or_then_
   sells-room unknown room = rw (unknown, room)

@@ -36,20 +36,20 @@ module _ {Cell : Type 0} where
   length-cells at place zero = refl
   length-cells at place (suc count) = ap suc (length-cells at (suc place) count)
 
-  pub map-cells : (part : Cell → ℕ) (at : ℕ → Cell) (place count : ℕ) → map part (cellsFrom at place count) ≡ cellsFrom (λ k. part (at k)) place count
+  map-cells : (part : Cell → ℕ) (at : ℕ → Cell) (place count : ℕ) → map part (cellsFrom at place count) ≡ cellsFrom (λ k. part (at k)) place count
   unfolding cellsFrom
   map-cells part at place zero = refl
   map-cells part at place (suc count) = ap (λ rest. part (at place) ∷ rest) (map-cells part at (suc place) count)
 
   -- the cell at a place of a walk
-  pub cell-of : (at : ℕ → Cell) (none : Cell) (from count place : ℕ) → place < count → getD (cellsFrom at from count) place none ≡ at (from + place)
+  cell-of : (at : ℕ → Cell) (none : Cell) (from count place : ℕ) → place < count → getD (cellsFrom at from count) place none ≡ at (from + place)
   unfolding cellsFrom
   cell-of at none from zero place low = absurd (omega arith)
   cell-of at none from (suc count) zero low = ap at (omega arith)
   cell-of at none from (suc count) (suc place) low = cell-of at none (suc from) count place (omega arith) ∙ ap at (omega arith)
 
   -- a walk over the elements of a list is the list
-  pub cells-of-list : (at : ℕ → Cell) (none : Cell) (from : ℕ) (cs : List Cell) → ((place : ℕ) → place < length cs → at (from + place) ≡ getD cs place none)
+  cells-of-list : (at : ℕ → Cell) (none : Cell) (from : ℕ) (cs : List Cell) → ((place : ℕ) → place < length cs → at (from + place) ≡ getD cs place none)
       → cellsFrom at from (length cs) ≡ cs
   unfolding cellsFrom
   cells-of-list at none from [] same = refl
@@ -95,7 +95,7 @@ module _ (column : List ℕ) where
       ap (λ rest. numberIn column from ∷ rest) (column-stays (suc from) count (omega arith))
       ∙ ap (take (suc count)) (sym (drop-cons column from 0 (omega arith)))
 
-  pub front-as-it-stands : (count : ℕ) → count ≤ length column → withFront column (cellsFrom (numberIn column) 0 count) ≡ column
+  front-as-it-stands : (count : ℕ) → count ≤ length column → withFront column (cellsFrom (numberIn column) 0 count) ≡ column
   front-as-it-stands count fits =
       ap (withFront column) (column-stays 0 count (omega arith)) ∙ ap (λ n. take count column ++ drop n column) (length-take-le count column fits)
       ∙ take-append-drop count column
@@ -105,14 +105,14 @@ module _ (column : List ℕ) where
     front = map part ps
 
     -- one pass more
-    pub front-longer : (p : Pass) → length ps < length column → withFront column (map part (ps ++ p ∷ [])) ≡ set (withFront column front) (length ps) (part p)
+    front-longer : (p : Pass) → length ps < length column → withFront column (map part (ps ++ p ∷ [])) ≡ set (withFront column front) (length ps) (part p)
     front-longer p room =
         ap (withFront column) (map-append part ps (p ∷ []))
         ∙ sym (front-next column front (part p ∷ []) (omega (arith, length-map ps part)))
         ∙ ap (λ n. set (withFront column front) n (part p)) (length-map ps part)
 
     -- another pass at a place
-    pub front-set : (place : ℕ) (p : Pass) → place < length ps → withFront column (map part (set ps place p)) ≡ set (withFront column front) place (part p)
+    front-set : (place : ℕ) (p : Pass) → place < length ps → withFront column (map part (set ps place p)) ≡ set (withFront column front) place (part p)
     front-set place p low =
         ap (withFront column) (map-set ps place)
         ∙ ap (λ n. set front place (part p) ++ drop n column) (length-set front place (part p))
@@ -124,12 +124,12 @@ module _ (column : List ℕ) where
         map-set (q ∷ qs) (suc k) = ap (λ rest. part q ∷ rest) (map-set qs k)
 
     -- what is read of the front
-    pub front-reads : (place : ℕ) → place < length ps → part (pass 0 0 0 0) ≡ 0 → numberIn (withFront column front) place ≡ part (getD ps place (pass 0 0 0 0))
+    front-reads : (place : ℕ) → place < length ps → part (pass 0 0 0 0) ≡ 0 → numberIn (withFront column front) place ≡ part (getD ps place (pass 0 0 0 0))
     front-reads place low zeros =
         List·getD-append front (drop (length front) column) 0 place (omega (arith, length-map ps part))
         ∙ ap (getD front place) (sym zeros) ∙ List·getD-map part ps place (pass 0 0 0 0)
 
-    pub front-length : length ps ≤ length column → length (withFront column front) ≡ length column
+    front-length : length ps ≤ length column → length (withFront column front) ≡ length column
     front-length fits = length-front column front (omega (arith, length-map ps part))
 
 -- ---- the table
@@ -141,7 +141,7 @@ pub record Sized (c : Columns) : Type 0 where
   pub of-last-days : length (c .lastDays) ≡ mostPasses
   pub of-last-scans : length (c .lastScans) ≡ mostPasses
 
-pub sized-brings : (c : Columns) → sized c ≡ true → Sized c
+sized-brings : (c : Columns) → sized c ≡ true → Sized c
 unfolding isSized
 sized-brings c so =
     let a = both-true (eqb (length (c .passes)) mostPasses && eqb (length (c .ridesLeft)) mostPasses && eqb (length (c .lastDays)) mostPasses)
@@ -155,7 +155,7 @@ sized-brings c so =
       of-last-scans = eqb-true _ _ (a .1);
     }
 
-pub sized-so : (c : Columns) → Sized c → sized c ≡ true
+sized-so : (c : Columns) → Sized c → sized c ≡ true
 unfolding isSized
 sized-so c s =
     and-true (and-true (and-true (eq-eqb _ _ (s .of-passes)) (eq-eqb _ _ (s .of-rides-left))) (eq-eqb _ _ (s .of-last-days))) (eq-eqb _ _ (s .of-last-scans))
@@ -181,7 +181,7 @@ pub in-use-length : (t : Table) → length (inUse t) ≡ t .count
 in-use-length t = length-cells (passAt (t .columns)) 0 (t .count)
 
 -- judged by the columns alone
-pub numbers-in-use : (c : Columns) (count : ℕ) → numbersOf (inUse (table c count)) ≡ cellsFrom (numberIn (c .passes)) 0 count
+numbers-in-use : (c : Columns) (count : ℕ) → numbersOf (inUse (table c count)) ≡ cellsFrom (numberIn (c .passes)) 0 count
 numbers-in-use c count = map-cells (λ p. p .number) (passAt c) 0 count
 
 pub lawful-columns : (c : Columns) (count : ℕ)
@@ -257,7 +257,7 @@ module _ (c : Columns) (long : Sized c) where
         ∙ λ i. pass (front-reads (c .passes) ps (λ q. q .number) place low refl i) (front-reads (c .ridesLeft) ps (λ q. q .«rides_left») place low refl i)
         (front-reads (c .lastDays) ps (λ q. q .«last_day») place low refl i) (front-reads (c .lastScans) ps (λ q. q .«last_scan») place low refl i)
 
-    pub holding-sized : length ps ≤ mostPasses → Sized (holding c ps .columns)
+    holding-sized : length ps ≤ mostPasses → Sized (holding c ps .columns)
     unfolding holding
     holding-sized few = record {
       of-passes = front-length (c .passes) ps (λ q. q .number) (omega (arith, long .of-passes)) ∙ long .of-passes;
