@@ -1,4 +1,3 @@
 pub mod Promises
-mod Steps
-mod OnePass
+mod Lives
 mod Ways

@@ -12,7 +12,7 @@ use lib.ListN.{length, take}
 use borrow.Author.Tests.{eq-eqb, leb-true, le-leb}
 use Rattle.basics.specs.Ladder.{if_then_else_, need_or_then_}
 use Rattle.basics.specs.Outcome.{Outcome, outcome}
-use Rattle.basics.proofs.Ladder.{by-test, need-elim, need-passed, need-failed}
+use Rattle.basics.proofs.Ladder.{by-test, need-elim, need-passed, need-failed, or-right}
 use Rattle.columns.specs.Walks.{cellsFrom}
 use Rattle.entries.specs.declared.Entry.{Entry}
 use Rattle.entries.specs.declared.Entry.the-variants.{Null, Malformed, Sale, Boarding}
@@ -22,14 +22,17 @@ use Rattle.passes.specs.declared.Pass.{Pass}
 use Rattle.passes.specs.Passes.{Table, table, passAt, inUse, holding, mostPasses, numbersOf, among, placeOf, isFull, sound, Fresh}
 use Rattle.passes.proofs.Laws as laws
 use Rattle.passes.proofs.Laws.{sound-brings, sound-so, in-use-length, holding-in-use, in-use-holding, holding-sound}
-use Rattle.ledger.specs.declared.Boarded.{Boarded}
-use Rattle.ledger.specs.Rule.{sold, opened, rideTaken, sell, boardPass, boardedAt, passOf, board, rule}
-use Rattle.ledger.specs.Ledger.{carriedOut, enter, replay, answers, isAccepted, accepted, ridesOf, boardingsOf, isOf, ridesSold, boardings, ofPass}
-use Rattle.ledger.specs.Ledger.{allLeft, leftOn}
+use Rattle.ledger_rule.specs.declared.Boarded.{Boarded}
+use Rattle.ledger_rule.specs.Rule.{sold, opened, sell, boardPass, boardedAt, passOf, board, rule}
+use Rattle.ledger_rule.specs.Sums.{isAccepted, isOf, ridesSold, boardings, ofPass, allLeft, leftOn}
+use Rattle.ledger_rule.specs.Promises.{acceptedOf}
+use Rattle.ledger.specs.Ledger.{carriedOut, enter, replay, answers, accepted}
 use Rattle.ledger.specs.Promises.{ConservedForEach, ConservedForAll, Conservation, no-more, never-sold, SoldOnce, Spent, SpentStays, SoundStays}
 use Rattle.ledger.specs.Promises.{FreshSound, FrontThenRest, Alike, SamePassesAlike, numbers, SaleTooMany, EnterPromises}
-use Rattle.ledger.proofs.Steps.{Did, keeps, opens, takes, declined-brings, did, InOrder, stays-in-order}
-use Rattle.ledger.proofs.OnePass.{passIn, itsOf, moved, left-on, moved-conserves, Later, moved-later, IsSpent, moved-spent, spent-in, spent-out}
+use Rattle.ledger_rule.proofs.Steps.{Did, keeps, opens, takes, declined-brings, did, InOrder, stays-in-order}
+use Rattle.ledger_rule.proofs.OnePass.{passIn, moved}
+use Rattle.ledger_rule.proofs.Promises.{of-pass-chosen, rule-conserves-each, rule-conserves-all}
+use Rattle.ledger.proofs.Lives.{Later, moved-later, IsSpent, moved-spent, spent-in, spent-out}
 
 -- ---- one entry
 
@@ -55,11 +58,8 @@ module _ (value : List ℕ) (t : Table) (sound-now : sound t ≡ true) where
             ∙ sound-so (holding (t .columns) (ruled .left)) (holding-sound (t .columns) (fine .long) (ruled .left) (after .few) (after .in-order));
       }
 
-  -- what was accepted of this entry
-  abbrev now-accepted : List Entry
-  now-accepted = if isAccepted (rule (inUse t) (entryIn value) .answer) then entryIn value ∷ [] else []
-
-  accepted-next : (later : List Entry) → (if isAccepted (enter value t .answer) then entryIn value ∷ later else later) ≡ now-accepted ++ later
+  accepted-next : (later : List Entry)
+      → (if isAccepted (enter value t .answer) then entryIn value ∷ later else later) ≡ acceptedOf (inUse t) (entryIn value) ++ later
   unfolding if_then_else_
   accepted-next later = ap (λ o. if isAccepted (o .answer) then entryIn value ∷ later else later) (entered .as-ruled)
       ∙ either (isAccepted (rule (inUse t) (entryIn value) .answer))
@@ -89,20 +89,14 @@ of-pass-append number (x ∷ xs) ys =
     either true its = refl
     either false its = refl
 
-of-pass-chosen : (number : ℕ) (b : Bool) (e : Entry) → ofPass number (if b then e ∷ [] else []) ≡ (if b then ofPass number (e ∷ []) else [])
-unfolding ofPass if_then_else_
-of-pass-chosen number true e = refl
-of-pass-chosen number false e = refl
-
 -- the accepted entries of a pass: those of the first entry, and then those of the rest
 its-next : (number : ℕ) (value : List ℕ) (values : List (List ℕ)) (t : Table) → sound t ≡ true
     → ofPass number (accepted t (value ∷ values))
-    ≡ itsOf number (entryIn value) (rule (inUse t) (entryIn value)) ++ ofPass number (accepted (enter value t .left) values)
+    ≡ ofPass number (acceptedOf (inUse t) (entryIn value)) ++ ofPass number (accepted (enter value t .left) values)
 unfolding accepted
 its-next number value values t sound-now =
     let later = accepted (enter value t .left) values in
-    ap (ofPass number) (accepted-next value t sound-now later) ∙ of-pass-append number (now-accepted value t sound-now) later
-    ∙ ap (λ its. its ++ ofPass number later) (of-pass-chosen number (isAccepted (rule (inUse t) (entryIn value) .answer)) (entryIn value))
+    ap (ofPass number) (accepted-next value t sound-now later) ∙ of-pass-append number (acceptedOf (inUse t) (entryIn value)) later
 
 -- ---- conservation
 
@@ -111,43 +105,18 @@ unfolding accepted replay ofPass
 conserved-for-each number t [] sound-now = omega arith
 conserved-for-each number t (v ∷ vs) sound-now =
     let e = entered v t sound-now in
-    let ps = inUse t in
-    let o = rule ps (entryIn v) in
-    let its = itsOf number (entryIn v) o in
+    let its = ofPass number (acceptedOf (inUse t) (entryIn v)) in
     let later = ofPass number (accepted (enter v t .left) vs) in
     let split = its-next number v vs t sound-now in
     omega (
       arith,
-      moved-conserves (moved number (did ps (entryIn v))),
+      rule-conserves-each number (inUse t) (entryIn v),
       conserved-for-each number (enter v t .left) vs (e .still-sound),
       ap ridesSold split,
       rides-append its later,
       ap boardings split,
       boardings-append its later,
-      left-on number ps,
-      left-on number (o .left),
       ap (leftOn number) (e .now-in-use),
-    )
-
-left-append : (ps qs : List Pass) → allLeft (ps ++ qs) ≡ allLeft ps + allLeft qs
-left-append [] qs = omega arith
-left-append (p ∷ ps) qs = omega (arith, left-append ps qs)
-
-did-conserves : {ps : List Pass} {e : Entry} {o : Outcome (List Pass)} → Did ps e o
-    → let its = if isAccepted (o .answer) then e ∷ [] else [] in
-    allLeft ps + ridesSold its ≡ boardings its + allLeft (o .left)
-unfolding if_then_else_ ridesOf boardingsOf
-did-conserves {ps} (keeps {e} {answer} so) =
-    subst (λ b. allLeft ps + ridesSold (if b then e ∷ [] else []) ≡ boardings (if b then e ∷ [] else []) + allLeft ps)
-    (sym (declined-brings answer so .not-accepted)) (omega arith)
-did-conserves {ps} (opens {number} {rides} {lastDay} unknown room) = omega (arith, left-append ps (opened number rides lastDay ∷ []))
-did-conserves {ps} (takes {number} {day} {scan} at in-time newer ride) =
-    omega (
-      arith,
-      ride,
-      ap allLeft (at .splits),
-      left-append (at .front) (at .it ∷ at .back),
-      left-append (at .front) (rideTaken (at .it) scan ∷ at .back),
     )
 
 pub conserved-for-all : ConservedForAll
@@ -155,12 +124,12 @@ unfolding accepted replay
 conserved-for-all t [] sound-now = omega arith
 conserved-for-all t (v ∷ vs) sound-now =
     let e = entered v t sound-now in
-    let its = now-accepted v t sound-now in
+    let its = acceptedOf (inUse t) (entryIn v) in
     let later = accepted (enter v t .left) vs in
     let split = accepted-next v t sound-now later in
     omega (
       arith,
-      did-conserves (did (inUse t) (entryIn v)),
+      rule-conserves-all (inUse t) (entryIn v),
       conserved-for-all (enter v t .left) vs (e .still-sound),
       ap ridesSold split,
       rides-append its later,
@@ -192,7 +161,9 @@ all-later number t (v ∷ vs) sound-now =
     let e = entered v t sound-now in
     let later = ofPass number (accepted (enter v t .left) vs) in
     let rest = subst (λ ps. Later number (passIn number ps) later) (e .now-in-use) (all-later number (enter v t .left) vs (e .still-sound)) in
-    subst (Later number (passIn number (inUse t))) (sym (its-next number v vs t sound-now)) (moved-later later (moved number (did (inUse t) (entryIn v))) rest)
+    let step = moved-later later (moved number (did (inUse t) (entryIn v))) rest in
+    let its = of-pass-chosen number (isAccepted (rule (inUse t) (entryIn v) .answer)) (entryIn v) in
+    subst (Later number (passIn number (inUse t))) (sym (its-next number v vs t sound-now ∙ ap (λ them. them ++ later) its)) step
 
 pub sold-once-only : SoldOnce
 unfolding passIn
@@ -262,7 +233,7 @@ same-passes-alike t u (v ∷ vs) t-sound u-sound same =
 
 did-number : {ps : List Pass} {e : Entry} {o : Outcome (List Pass)} → Did ps e o → among (o .answer) numbers ≡ true
 unfolding among
-did-number (keeps {e} {answer} so) = declined-brings answer so .a-number
+did-number (keeps {e} {answer} so) = or-right (eqb 30 answer) (declined-brings answer so .a-number)
 did-number (opens unknown room) = refl
 did-number (takes at in-time newer ride) = refl
 

@@ -7,7 +7,7 @@ use mathlib.Core.Bool.{Bool, true, false, not}
 use mathlib.Core.List.{List, [], _∷_, _++_}
 use native.Mathlib.Omega.{arith}
 use lib.ListN.{length}
-use borrow.Author.Tests.{not-true, not-false, le-leb, lt-leb, leb-false, lt-ltb, le-ltb}
+use borrow.Author.Tests.{not-true, not-false, leb-false}
 use Rattle.basics.specs.Ladder.{need_or_then_}
 use Rattle.basics.specs.Outcome.{Outcome, outcome}
 use Rattle.basics.proofs.Ladder.{need-passed}
@@ -18,31 +18,10 @@ use Rattle.entries.specs.Entry.{entryIn}
 use Rattle.passes.specs.declared.Pass.{Pass}
 use Rattle.passes.specs.Passes.{Columns, Table, table, numberIn, passAt, withPass, inUse, holding, mostPasses, placeOf, isFull, sound}
 use Rattle.passes.proofs.Laws.{sound-brings, holding-in-use, holding-longer, holding-set, in-use-length, pass-in-use, found-at, found-known, found-unknown}
-use Rattle.ledger.specs.declared.Boarded.{Boarded}
-use Rattle.ledger.specs.declared.Boarded.the-variants.{Taken, Refused}
-use Rattle.ledger.specs.Rule.{sold, boarded, skipped, opened, sell, rideTaken, boardPass, boardedAt, passOf, board, rule}
+use Rattle.ledger_rule.specs.declared.Boarded.{Boarded}
+use Rattle.ledger_rule.specs.declared.Boarded.the-variants.{Taken, Refused}
+use Rattle.ledger_rule.specs.Rule.{sold, boarded, skipped, opened, sell, boardPass, boardedAt, passOf, board, rule}
 use Rattle.ledger.specs.Ledger.{carriedOut, enter}
-
--- ---- a boarding at its pass
-
-module _ (p : Pass) (day scan : ℕ) where
-  pub day-past : p .«last_day» < day → Refused 35 ≡ boardPass p day scan
-  unfolding boardPass need_or_then_
-  day-past late = rw (lt-leb day (p .«last_day») late)
-
-  module _ (in-time : day ≤ p .«last_day») where
-    pub scan-old : scan ≤ p .«last_scan» → Refused 36 ≡ boardPass p day scan
-    unfolding boardPass need_or_then_
-    scan-old old = rw (le-leb day (p .«last_day») in-time, le-ltb (p .«last_scan») scan old)
-
-    module _ (newer : p .«last_scan» < scan) where
-      pub no-ride-left : p .«rides_left» < 1 → Refused 37 ≡ boardPass p day scan
-      unfolding boardPass need_or_then_
-      no-ride-left none = rw (le-leb day (p .«last_day») in-time, lt-ltb (p .«last_scan») scan newer, lt-leb 1 (p .«rides_left») none)
-
-      pub ride-taken : 1 ≤ p .«rides_left» → Taken (rideTaken p scan) ≡ boardPass p day scan
-      unfolding boardPass need_or_then_
-      ride-taken some = rw (le-leb day (p .«last_day») in-time, lt-ltb (p .«last_scan») scan newer, le-leb 1 (p .«rides_left») some)
 
 -- ---- a sound table
 

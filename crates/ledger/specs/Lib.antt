@@ -1,3 +1,2 @@
-pub mod Rule
 pub mod Ledger
 pub mod Promises

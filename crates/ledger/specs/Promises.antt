@@ -11,8 +11,9 @@ use Rattle.entries.specs.declared.Entry.{Entry}
 use Rattle.entries.specs.declared.Entry.the-variants.{Sale, Boarding}
 use Rattle.entries.specs.Entry.{entryIn}
 use Rattle.passes.specs.Passes.{Table, mostPasses, numbersOf, inUse, among, sound, Fresh}
-use Rattle.ledger.specs.Rule.{sold, boarded, skipped}
-use Rattle.ledger.specs.Ledger.{enter, replay, answers, isAccepted, accepted, ridesSold, boardings, ofPass, allLeft, leftOn}
+use Rattle.ledger_rule.specs.Rule.{ruleNumbers}
+use Rattle.ledger_rule.specs.Sums.{isAccepted, ridesSold, boardings, ofPass, allLeft, leftOn}
+use Rattle.ledger.specs.Ledger.{enter, replay, answers, accepted}
 
 -- ---- conservation
 
@@ -39,15 +40,15 @@ Conservation =
 -- ---- one pass
 
 -- Boardings of a pass, one after the other: each "a day not after the last, and a scan number above the last accepted for that pass".
-pub data Boarded (number lastDay : ℕ) : (lastScan : ℕ) → List Entry → Type 0 where
-  no-more : {lastScan : ℕ} → Boarded number lastDay lastScan []
-  one-more : {lastScan day scan : ℕ} {later : List Entry} → day ≤ lastDay → lastScan < scan → Boarded number lastDay scan later
-      → Boarded number lastDay lastScan (Boarding number day scan ∷ later)
+pub data RisingBoardings (number lastDay : ℕ) : (lastScan : ℕ) → List Entry → Type 0 where
+  no-more : {lastScan : ℕ} → RisingBoardings number lastDay lastScan []
+  one-more : {lastScan day scan : ℕ} {later : List Entry} → day ≤ lastDay → lastScan < scan → RisingBoardings number lastDay scan later
+      → RisingBoardings number lastDay lastScan (Boarding number day scan ∷ later)
 
 -- All that is accepted of a pass: nothing, or one sale and then boardings, at most as many as it says. So a single-ride pass carries one pupil.
 pub data OneSale (number : ℕ) : List Entry → Type 0 where
   never-sold : OneSale number []
-  sold-once : {rides lastDay : ℕ} {later : List Entry} → Boarded number lastDay 0 later → length later ≤ rides
+  sold-once : {rides lastDay : ℕ} {later : List Entry} → RisingBoardings number lastDay 0 later → length later ≤ rides
       → OneSale number (Sale number rides lastDay ∷ later)
 
 -- From the fresh table that is so of each pass.
@@ -95,8 +96,9 @@ SamePassesAlike = (t u : Table) (values : List (List ℕ)) → sound t ≡ true 
 
 -- ---- the call
 
+-- 30, and all that the rule answers: 31 to 37, sold, boarded, skipped.
 abbrev pub numbers : List ℕ
-numbers = 30 ∷ 31 ∷ 32 ∷ 33 ∷ 34 ∷ 35 ∷ 36 ∷ 37 ∷ sold ∷ boarded ∷ skipped ∷ []
+numbers = 30 ∷ ruleNumbers
 
 -- A well-formed sale of an unknown pass, with 256 in use.
 pub record SaleTooMany (value : List ℕ) (t : Table) : Type 0 where

@@ -4,9 +4,10 @@ ghost use mathlib.Core.Bool.{true};
 ghost use Rattle.basics.specs.Outcome.{outcome};
 ghost use Rattle.entries.specs.declared.Entry.the-variants.{Sale, Boarding};
 ghost use Rattle.passes.specs.Passes.{columns, table, inUse, sound};
-ghost use Rattle.ledger.specs.Rule.{sell, boardPass, board};
+ghost use Rattle.ledger_rule.specs.Rule.{sell, board};
 ghost use Rattle.ledger.specs.Ledger.{carriedOut, enter};
 use entries::Entry;
+use ledger_rule::Boarded;
 use passes::Pass;
 
 pub const SOLD: u32 = 109;
@@ -14,12 +15,6 @@ pub const SOLD: u32 = 109;
 pub const BOARDED: u32 = 110;
 
 pub const SKIPPED: u32 = 111;
-
-// What a boarding comes to at its pass: the pass behind it, or the refusal.
-enum Boarded {
-    Taken(Pass),
-    Refused(u32),
-}
 
 fn sell(
     passes: &mut [u32],
@@ -65,26 +60,6 @@ fn sell(
     SOLD
 }
 
-fn board_pass(pass: Pass, day: u16, scan: u32) -> Boarded
-    ensures { λ r. ⌜ r ≡ boardPass pass day scan ⌝ }
-{
-    if pass.last_day < day {
-        return Boarded::Refused(35);
-    }
-    if scan <= pass.last_scan {
-        return Boarded::Refused(36);
-    }
-    if pass.rides_left < 1 {
-        return Boarded::Refused(37);
-    }
-    Boarded::Taken(Pass {
-        number: pass.number,
-        rides_left: pass.rides_left - 1,
-        last_day: pass.last_day,
-        last_scan: scan,
-    })
-}
-
 fn board(
     passes: &mut [u32],
     rides_left: &mut [u8],
@@ -107,7 +82,7 @@ fn board(
         return 34;
     }
     let pass = passes::pass_at(passes, rides_left, last_days, last_scans, place as usize);
-    match board_pass(pass, day, scan) {
+    match ledger_rule::board_pass(pass, day, scan) {
         Boarded::Taken(next) => {
             passes::store_pass(
                 passes,

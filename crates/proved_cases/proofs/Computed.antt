@@ -45,7 +45,7 @@ use Rattle.learner_file.specs.File.{header, marked, sameSettings, cellBytes, ce
 use Rattle.learner_saved.specs.Saved.{savedTable, save, readSaved}
 use Rattle.entries.specs.Entry as entries
 use Rattle.passes.specs.Passes as passes
-use Rattle.ledger.specs.Rule as ledgerRule
+use Rattle.ledger_rule.specs.Rule as ledgerRule
 use Rattle.ledger.specs.Ledger.{enter}
 use Rattle.proved_cases.specs.Cases.{cases, All}
 use Rattle.proved_cases.specs.Frames.{FrameCases}

@@ -6,8 +6,9 @@ use Rattle.basics.specs.Ladder.{if_then_else_, need_or_then_}
 use Rattle.columns.specs.Walks.{cellsFrom, every}
 use Rattle.entries.specs.Entry.{fieldsIn, isNull, isSale, isBoarding, entryOf, entryIn, fieldBytes}
 use Rattle.passes.specs.Passes.{holding, among, placeOf, twice, isFull, isSized, lawful, sound}
-use Rattle.ledger.specs.Rule.{sell, boardPass, boardedAt, board, rule}
-use Rattle.ledger.specs.Ledger.{enter, replay, answers, accepted, ridesOf, boardingsOf}
+use Rattle.ledger_rule.specs.Rule.{sell, boardPass, boardedAt, board, rule}
+use Rattle.ledger_rule.specs.Sums.{ridesOf, boardingsOf}
+use Rattle.ledger.specs.Ledger.{enter, replay, answers, accepted}
 use Rattle.proved_cases.specs.Ledger.{FullLedger, LedgerCases}
 
 full-ledger : FullLedger

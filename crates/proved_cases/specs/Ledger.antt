@@ -11,8 +11,9 @@ use Rattle.columns.specs.Walks.{cellsFrom}
 use Rattle.entries.specs.Entry.{fields, entryIn, fieldBytes}
 use Rattle.passes.specs.declared.Pass.{Pass}
 use Rattle.passes.specs.Passes.{Table, pass, columns, table, inUse}
-use Rattle.ledger.specs.Rule.{rule}
-use Rattle.ledger.specs.Ledger.{enter, replay, answers, accepted, ridesSold, boardings, allLeft}
+use Rattle.ledger_rule.specs.Rule.{rule}
+use Rattle.ledger_rule.specs.Sums.{ridesSold, boardings, allLeft}
+use Rattle.ledger.specs.Ledger.{enter, replay, answers, accepted}
 
 -- The answers that are no refusals.
 abbrev sold : ℕ

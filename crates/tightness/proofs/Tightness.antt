@@ -214,5 +214,6 @@ every-call = record {
   of-passes-find = λ _ _ _ _ _ _. equal;
   of-passes-is-sound = λ _ _ _ _ _ _. equal;
   of-passes-is-full = λ _ _ _ _ _ _. equal;
+  of-board-pass = λ _ _ _ _ _ _. equal;
   of-ledger-enter = (λ _ _ _ _ _ _. seen (λ o. o .answer), λ _ _ _ _ _ _. seen (λ o. ledgerColumns (o .left)));
 }

@@ -124,6 +124,7 @@ use Rattle.passes.proofs.store_pass.Reads as store-pass
 use Rattle.passes.proofs.find.Reads as passes-find
 use Rattle.passes.proofs.is_sound.Reads as passes-is-sound
 use Rattle.passes.proofs.is_full.Reads as passes-is-full
+use Rattle.ledger_rule.proofs.board_pass.Reads as board-pass
 use Rattle.ledger.proofs.myrthakel_ledger_enter.Reads as ledger-enter
 
 -- Two outcomes on the same arguments that both keep the promise, each an answer and the parameters at exit, have the same answer
@@ -318,5 +319,7 @@ pub record EveryCall : Type 0 where
   pub of-passes-find : OneAnswer passes-find.Learnt
   pub of-passes-is-sound : OneAnswer passes-is-sound.Learnt
   pub of-passes-is-full : OneAnswer passes-is-full.Learnt
+  -- ledger_rule
+  pub of-board-pass : OneAnswer board-pass.Learnt
   -- ledger
   pub of-ledger-enter : OneAnswer ledger-enter.Learnt × OneContent ledger-enter.Learnt (λ κs exit. held-5 (exit .1))

@@ -1,8 +1,8 @@
--- `ledger::board_pass` meets its contract: each return is a way out of a boarding at its pass.
+-- `ledger_rule::board_pass` meets its contract: each return is a way out of a boarding at its pass.
 -- Assumes nothing.
-use Rattle.ledger.proofs.Ways.{day-past, scan-old, no-ride-left, ride-taken}
-use Rattle.ledger.proofs.board_pass.Statement.{statement}
-use Rattle.ledger.proofs.board_pass.Tie as tie
+use Rattle.ledger_rule.proofs.Ways.{day-past, scan-old, no-ride-left, ride-taken}
+use Rattle.ledger_rule.proofs.board_pass.Statement.{statement}
+use Rattle.ledger_rule.proofs.board_pass.Tie as tie
 
 returns : tie.Need-returns
 returns c = day-past _ _ _ (c .if1 .taken)

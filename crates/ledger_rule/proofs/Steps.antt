@@ -20,11 +20,10 @@ use Rattle.entries.proofs.Laws.{FewRides}
 use Rattle.passes.specs.declared.Pass.{Pass}
 use Rattle.passes.specs.Passes.{pass, mostPasses, numbersOf, among, placeOf, twice, ridesFit, lawful, isFull}
 use Rattle.passes.proofs.Laws.{or-false, not-so, place-here, place-later}
-use Rattle.ledger.specs.declared.Boarded.{Boarded}
-use Rattle.ledger.specs.declared.Boarded.the-variants.{Taken}
-use Rattle.ledger.specs.Rule.{sold, boarded, opened, sell, rideTaken, boardPass, boardedAt, passOf, board, rule}
-use Rattle.ledger.specs.Ledger.{isAccepted}
-use Rattle.ledger.specs.Promises.{numbers}
+use Rattle.ledger_rule.specs.declared.Boarded.{Boarded}
+use Rattle.ledger_rule.specs.declared.Boarded.the-variants.{Taken}
+use Rattle.ledger_rule.specs.Rule.{sold, boarded, opened, sell, rideTaken, boardPass, boardedAt, passOf, board, rule, ruleNumbers}
+use Rattle.ledger_rule.specs.Sums.{isAccepted}
 
 -- ---- where a number is found
 
@@ -70,17 +69,17 @@ found number (p ∷ ps) known =
 
 -- an answer of the call that is no acceptance, and not 30
 unfoldable pub declined : (answer : ℕ) → Bool
-declined answer = not (isAccepted answer) && not (eqb answer 30) && among answer numbers
+declined answer = not (isAccepted answer) && not (eqb answer 30) && among answer ruleNumbers
 
 pub record Declined (answer : ℕ) : Type 0 where
   pub not-accepted : isAccepted answer ≡ false
   pub not-30 : eqb answer 30 ≡ false
-  pub a-number : among answer numbers ≡ true
+  pub a-number : among answer ruleNumbers ≡ true
 
 pub declined-brings : (answer : ℕ) → declined answer ≡ true → Declined answer
 unfolding declined
 declined-brings answer so =
-    let a = both-true (not (isAccepted answer) && not (eqb answer 30)) (among answer numbers) so in
+    let a = both-true (not (isAccepted answer) && not (eqb answer 30)) (among answer ruleNumbers) so in
     let b = both-true (not (isAccepted answer)) (not (eqb answer 30)) (a .0) in
     record { not-accepted = not-so (isAccepted answer) (b .0); not-30 = not-so (eqb answer 30) (b .1); a-number = a .1 }
 

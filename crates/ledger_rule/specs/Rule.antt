@@ -12,8 +12,8 @@ use Rattle.entries.specs.declared.Entry.{Entry}
 use Rattle.entries.specs.declared.Entry.the-variants.{Null, Malformed, Sale, Boarding}
 use Rattle.passes.specs.declared.Pass.{Pass}
 use Rattle.passes.specs.Passes.{pass, numbersOf, among, placeOf, isFull}
-use Rattle.ledger.specs.declared.Boarded.{Boarded}
-use Rattle.ledger.specs.declared.Boarded.the-variants.{Taken, Refused}
+use Rattle.ledger_rule.specs.declared.Boarded.{Boarded}
+use Rattle.ledger_rule.specs.declared.Boarded.the-variants.{Taken, Refused}
 
 -- ---- the answers that are no refusals
 
@@ -25,6 +25,10 @@ boarded = 110
 
 abbrev pub skipped : ℕ
 skipped = 111
+
+-- All that the rule answers.
+abbrev pub ruleNumbers : List ℕ
+ruleNumbers = 31 ∷ 32 ∷ 33 ∷ 34 ∷ 35 ∷ 36 ∷ 37 ∷ sold ∷ boarded ∷ skipped ∷ []
 
 -- ---- a sale
 

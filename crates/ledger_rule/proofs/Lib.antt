@@ -1,0 +1,4 @@
+pub mod Steps
+pub mod OnePass
+pub mod Promises
+mod Ways
