@@ -2,7 +2,6 @@
 ghost use mathlib.Core.Path.{_≡_};
 ghost use mathlib.Core.Bool.{true};
 ghost use Rattle.basics.specs.Outcome.{outcome};
-ghost use Rattle.entries.specs.declared.Entry.the-variants.{Sale, Boarding};
 ghost use Rattle.passes.specs.Passes.{columns, table, inUse, sound};
 ghost use Rattle.ledger_rule.specs.Rule.{sell, board};
 ghost use Rattle.ledger.specs.Ledger.{carriedOut, enter};
@@ -16,6 +15,7 @@ pub const BOARDED: u32 = 110;
 
 pub const SKIPPED: u32 = 111;
 
+// A sale opens a pass behind those in use.
 fn sell(
     passes: &mut [u32],
     rides_left: &mut [u8],
@@ -60,6 +60,7 @@ fn sell(
     SOLD
 }
 
+// A boarding takes a ride from its pass.
 fn board(
     passes: &mut [u32],
     rides_left: &mut [u8],

@@ -36,6 +36,7 @@ ruleNumbers = 31 ∷ 32 ∷ 33 ∷ 34 ∷ 35 ∷ 36 ∷ 37 ∷ sold ∷ boarded 
 abbrev pub opened : (number rides lastDay : ℕ) → Pass
 opened number rides lastDay = pass number rides lastDay 0
 
+-- "for a sale 32 pass exists, 33 table full"
 unfoldable pub sell : List Pass → (number rides lastDay : ℕ) → Outcome (List Pass)
 sell ps number rides lastDay =
     need not (among number (numbersOf ps)) or outcome 32 ps then
@@ -65,7 +66,7 @@ boardedAt ps place (Refused number) = outcome number ps
 abbrev pub passOf : List Pass → (place : ℕ) → Pass
 passOf ps place = getD ps place (pass 0 0 0 0)
 
--- "it needs a known pass"
+-- "it needs a known pass": "34 unknown pass"
 unfoldable pub board : List Pass → (number day scan : ℕ) → Outcome (List Pass)
 board ps number day scan =
     let place = placeOf number (numbersOf ps) in
