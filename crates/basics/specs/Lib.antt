@@ -5,3 +5,4 @@ pub mod Votes
 pub mod Places
 pub mod Verdict
 pub mod Outcome
+pub mod Promises

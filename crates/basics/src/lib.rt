@@ -47,7 +47,7 @@ pub fn is_none(round: Round) -> bool
     round.0 == NONE
 }
 
-// Who owns a round: 0 the primary, 1 to 3 that backup, or nobody. None, whose remainder is 3, is no round.
+// Who owns a round: 0 the primary, 1 to 3 that backup, or nobody. 0 and none, whose low two bits are 0 and 3, go by name before the bits are looked at.
 pub fn owner(round: Round) -> u16
     ensures { λ r. ⌜ r ≡ ownerOf round ⌝ }
 {
@@ -58,11 +58,11 @@ pub fn owner(round: Round) -> u16
     if number == NONE {
         return NOBODY;
     }
-    let remainder = number % 4;
-    if remainder == 0 {
+    let low_bits = number & 3;
+    if low_bits == 0 {
         return NOBODY;
     }
-    remainder as u16
+    low_bits as u16
 }
 
 pub fn owned_or_0(round: Round) -> bool
