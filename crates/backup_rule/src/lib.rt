@@ -17,14 +17,24 @@ pub enum Ruled {
 
 // ---- start
 
-// The floor is any 32-bit number and no round, so the two are compared as numbers. Wide enough for it: past the last round the answer is no round either.
+// The first of the four numbers above both whose low two bits are this backup's. The floor is any 32-bit number and no round, so the two are compared as
+// numbers. Wide enough for four more: past the last round the answer is no round either.
 fn next_round(own: u16, held: Round, floor: u32) -> u64
     ensures { λ r. ⌜ r ≡ nextRound own (max (held .0) floor) ⌝ }
 {
     let number = held.0;
-    let above = if number < floor { floor } else { number };
-    let first = (above as u64) + 1;
-    first + ((own as u64) + 4 - first % 4) % 4
+    let above = (if number < floor { floor } else { number }) as u64;
+    let own_bits = (own as u64) & 3;
+    if ((above + 1) & 3) == own_bits {
+        return above + 1;
+    }
+    if ((above + 2) & 3) == own_bits {
+        return above + 2;
+    }
+    if ((above + 3) & 3) == own_bits {
+        return above + 3;
+    }
+    above + 4
 }
 
 pub fn start(
