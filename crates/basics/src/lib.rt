@@ -78,11 +78,11 @@ pub fn owned_not_0(round: Round) -> bool
     (1 <= number) & (number <= 3)
 }
 
-// One more than the round. None, the largest number, comes to 0: any beats none.
-fn rank_of(round: Round) -> u64
+// One more than the round. None, the largest number of 32 bits, wraps to 0: any beats none.
+fn rank_of(round: Round) -> u32
     ensures { λ r. ⌜ r ≡ rank round ⌝ }
 {
-    ((round.0 as u64) + 1) % 4294967296
+    std::num::wrapping_add_u32(round.0, 1)
 }
 
 pub fn at_most(a: Round, b: Round) -> bool
