@@ -207,11 +207,69 @@ static void backup_cases(void)
     expect(start(&b, 1, 3, 0, 0x2b, packet, 36) == MYRTHAKEL_IMPOSSIBLE_CELL, "phase 3 is impossible");
 }
 
+enum { nobody = 4 };
+
+/* The table of crates/proved_cases/specs/Rounds.antt: a round, or any number; its owner; the next round of backups 1, 2 and 3 above it, or the refusal 16. */
+static const struct {
+    uint32_t number, owner, next[3];
+} round_rows[] = {
+    {0, 0, {1, 2, 3}},
+    {1, 1, {5, 2, 3}},
+    {2, 2, {5, 6, 3}},
+    {3, 3, {5, 6, 7}},
+    {4, nobody, {5, 6, 7}},
+    {4294967288, nobody, {4294967289, 4294967290, 4294967291}},
+    {4294967290, 2, {4294967293, 4294967294, 4294967291}},
+    {4294967291, 3, {4294967293, 4294967294, 16}},
+    {4294967293, 1, {16, 4294967294, 16}},
+    {4294967294, 2, {16, 16, 16}},
+    {4294967295, nobody, {16, 16, 16}},
+};
+
+/* A propose is written with its round's owner for a switch, and with no other. */
+static void owner_is(uint32_t round, uint32_t owner)
+{
+    uint8_t packet[MYRTHAKEL_PACKET_LENGTH];
+    char what[80];
+    int only = 1;
+    for (uint32_t switch_number = 0; switch_number <= 65535; switch_number++) {
+        uint32_t answer = myrthakel_packet_write(MYRTHAKEL_PROPOSE, switch_number, 0, round, MYRTHAKEL_NONE, 0, 0x2a, packet, sizeof packet);
+        only &= answer == (owner != nobody && switch_number == owner ? MYRTHAKEL_DONE : MYRTHAKEL_BROKEN_FIELD);
+    }
+    snprintf(what, sizeof what, "round %u: owner %u, or nobody where it is 4", (unsigned)round, (unsigned)owner);
+    expect(only, what);
+}
+
+/* A start on a fresh cell takes the next round and asks with it, or is refused. */
+static void next_is(uint32_t own, uint32_t floor, uint32_t next)
+{
+    uint8_t packet[MYRTHAKEL_PACKET_LENGTH] = {0};
+    char what[80];
+    backup b;
+    make_idle(&b);
+    uint32_t answer = start(&b, own, 0, floor, 0x2a, packet, sizeof packet);
+    snprintf(what, sizeof what, "backup %u, floor %u: round %u, or refusal 16", (unsigned)own, (unsigned)floor, (unsigned)next);
+    if (next == MYRTHAKEL_NO_ROUND_LEFT)
+        expect(answer == next && b.rounds[0] == 0, what);
+    else
+        expect(answer == MYRTHAKEL_TO_ACCEPTORS && b.rounds[0] == next && is_packet(packet, MYRTHAKEL_PREPARE, own, 0, next, MYRTHAKEL_NONE, 0), what);
+}
+
+static void round_cases(void)
+{
+    for (size_t i = 0; i < sizeof round_rows / sizeof *round_rows; i++) {
+        owner_is(round_rows[i].number, round_rows[i].owner);
+        for (uint32_t own = 1; own <= 3; own++)
+            next_is(own, round_rows[i].number, round_rows[i].next[own - 1]);
+    }
+}
+
 int main(void)
 {
     acceptor_cases();
     primary_cases();
     request_cases();
     backup_cases();
+    round_cases();
     return told();
 }

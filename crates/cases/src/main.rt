@@ -1,5 +1,5 @@
-// Runs the cases of the paper that are not starred, and the change request's cases of holes, M = 3, N = 8 unless said, and prints each with its answer. The
-// starred ones are proved, in proved_cases, and so are those of holes.
+// Runs the cases of the paper that are not starred, and the change requests' cases of holes and of rounds, M = 3, N = 8 unless said, and prints each with its
+// answer. The starred ones are proved, in proved_cases, and so are those of holes and of rounds.
 use basics::Instance;
 use basics::Round;
 use basics::Value;
@@ -16,6 +16,7 @@ fn main() {
     print(b"37 bytes: ", packet_of_37_bytes());
     requests_for_one_instance();
     first_holes();
+    owners_and_next_rounds();
 }
 
 fn print(name: &[u8], answer: u32) {
@@ -170,4 +171,64 @@ fn cell_of(set: u8, low: u64) -> Cell {
         set,
         value: Value { high: 0, low },
     }
+}
+
+// The least numbers, with a round of nobody's among them, and the last ones, with none at the end.
+fn owners_and_next_rounds() {
+    print_round(0);
+    print_round(1);
+    print_round(2);
+    print_round(3);
+    print_round(4);
+    print_round(4294967288);
+    print_round(4294967290);
+    print_round(4294967291);
+    print_round(4294967293);
+    print_round(4294967294);
+    print_round(basics::NONE);
+}
+
+fn print_round(number: u32) {
+    io::write_all(STDOUT_FILENO, b"round ");
+    io::print_decimal(STDOUT_FILENO, number as u64);
+    print_owner(basics::owner(Round(number)));
+    io::write_all(STDOUT_FILENO, b", next of 1, 2, 3:");
+    print_next(1, number);
+    print_next(2, number);
+    print_next(3, number);
+    io::write_all(STDOUT_FILENO, b"\n");
+}
+
+fn print_owner(owner: u16) {
+    if owner == basics::NOBODY {
+        io::write_all(STDOUT_FILENO, b": owner nobody");
+        return;
+    }
+    io::write_all(STDOUT_FILENO, b": owner ");
+    io::print_decimal(STDOUT_FILENO, owner as u64);
+}
+
+// A start on a fresh cell: the round that it takes, or the refusal.
+fn print_next(own: u32, floor: u32) {
+    let mut packet = [0u8; 36];
+    let mut rounds = [0u32; 8];
+    let answer = backup::myrthakel_backup_start(
+        3,
+        8,
+        own,
+        0,
+        floor,
+        0,
+        42,
+        &mut packet,
+        &mut rounds,
+        &mut [0u8; 8],
+        &mut [0u8; 8],
+        &mut [basics::NONE; 8],
+        &mut [0u64; 16],
+        &mut [0u64; 16],
+    );
+    let next = if answer == 101 { rounds[0] } else { answer };
+    io::write_all(STDOUT_FILENO, b" ");
+    io::print_decimal(STDOUT_FILENO, next as u64);
 }

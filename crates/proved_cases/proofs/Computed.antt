@@ -1,5 +1,5 @@
--- The starred cases, those of frames and of holes, the orders of refusal and the calls that are written out hold: each is computed from the definitions, all
--- with one list of them.
+-- The starred cases, those of frames, of holes and of rounds, the orders of refusal and the calls that are written out hold: each is computed from the
+-- definitions, all with one list of them.
 -- Assumes nothing.
 use mathlib.Core.Path.{refl}
 use lib.Count.{ones}
@@ -51,9 +51,10 @@ use Rattle.proved_cases.specs.Cases.{cases, All}
 use Rattle.proved_cases.specs.Frames.{FrameCases}
 use Rattle.proved_cases.specs.Holes.{HoleCases}
 use Rattle.proved_cases.specs.Orders.{Orders}
+use Rattle.proved_cases.specs.Rounds.{RoundCases}
 use Rattle.proved_cases.specs.WrittenOut.{WrittenOut}
 
-computed : WrittenOut × FrameCases × HoleCases × Orders × All cases
+computed : WrittenOut × FrameCases × HoleCases × RoundCases × Orders × All cases
 unfolding ones numberAt withNumberAt if_then_else_ need_or_then_ ownerOf ownedOr0 ownedNot0 rank atMost isVoteUpTo placed requestRow prepareRow promiseRow proposeRow voteRow tableRow
     keepsTable messageOf fieldsOf whenRequest whenPrepare whenPromise whenPropose whenVote fieldsIn readPacket packetWith packetOf packetWrite fieldsRead packetRead
     afterReading afterPlacing ruled ruleAt act step acceptorsAllowed instancesAllowed allowed majority bit hasMember withMember within reaches cellsFrom every
@@ -134,6 +135,7 @@ computed = (
     a-vote-for-null = refl;
   },
   refl,
+  refl,
   (
     refl,
     (
@@ -185,8 +187,11 @@ frame-cases = computed .1
 pub hole-cases : HoleCases
 hole-cases = computed .2
 
+pub round-cases : RoundCases
+round-cases = computed .3
+
 orders : Orders
-orders = computed .3
+orders = computed .4
 
 starred : All cases
-starred = computed .4
+starred = computed .5
