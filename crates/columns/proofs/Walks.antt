@@ -1,9 +1,10 @@
--- A walk over the cells from an index on: its next cell, its end, and the walk that judges every cell.
+-- A walk over the cells from an index on: its next cell, its end, its length and the cell at a place of it, and the walk that judges every cell.
 -- Assumes nothing.
 use Prim.Native.Nat.{ℕ, zero, suc, _+_, _-_, _≤_, _<_}
 use mathlib.Core.Path.{_≡_, refl, sym, ap, _∙_, subst}
 use mathlib.Core.Bool.{Bool, true, false, not}
 use mathlib.Core.List.{List, [], _∷_}
+use lib.ListN.{length, getD}
 use native.Mathlib.Decide.{ℕ-discrete}
 use native.Mathlib.Omega.{arith}
 use native.Mathlib.Numerals.{add-one}
@@ -34,6 +35,18 @@ module _ {Cell : Type 0} (cellAt : ℕ → Cell) where
     pub cells-end : count ≤ index → cellsLeft ≡ []
     unfolding cellsFrom
     cells-end past = let no-more : count - index ≡ 0 = omega arith in ap (cellsFrom cellAt index) no-more
+
+  pub length-cells : (index count : ℕ) → length (cellsFrom cellAt index count) ≡ count
+  unfolding cellsFrom
+  length-cells index zero = refl
+  length-cells index (suc count) = ap suc (length-cells (suc index) count)
+
+  -- the cell at a place of a walk
+  pub cell-of : (none : Cell) (index count place : ℕ) → place < count → getD (cellsFrom cellAt index count) place none ≡ cellAt (index + place)
+  unfolding cellsFrom
+  cell-of none index zero place low = absurd (omega arith)
+  cell-of none index (suc count) zero low = ap cellAt (omega arith)
+  cell-of none index (suc count) (suc place) low = cell-of none (suc index) count place (omega arith) ∙ ap cellAt (omega arith)
 
   pub cells-all : (count : ℕ) → cellsFrom cellAt 0 count ≡ cellsLeft 0 count
   cells-all count = let all : count ≡ count - 0 = omega arith in ap (cellsFrom cellAt 0) all

@@ -18,6 +18,7 @@ use Rattle.basics.specs.Rounds.{theRound}
 use Rattle.basics.specs.Values.{theValue}
 use Rattle.columns.specs.Columns.{Below}
 use Rattle.columns.specs.Walks.{cellsFrom}
+use Rattle.columns.proofs.Walks.{length-cells}
 use Rattle.quorum.specs.declared.Settings.{Settings}
 use Rattle.learner_cell.specs.declared.Cell.{Cell}
 use Rattle.learner_cell.specs.Cell.{cell, freshCell}
@@ -39,20 +40,6 @@ pub length-cells-bytes : (cs : List Cell) → length (cellsBytes cs) ≡ cellLen
 unfolding cellsBytes
 length-cells-bytes [] = refl
 length-cells-bytes (c ∷ cs) = omega (arith, length-append (cellBytes c) (cellsBytes cs), length-cell c, length-cells-bytes cs)
-
-pub length-from : (cellAt : ℕ → Cell) (index count : ℕ) → length (cellsFrom cellAt index count) ≡ count
-unfolding cellsFrom
-length-from cellAt index zero = refl
-length-from cellAt index (suc count) = ap suc (length-from cellAt (suc index) count)
-
--- the cell at an index of the list
-pub cell-from : (cellAt : ℕ → Cell) (start count index : ℕ) → index < count → getD (cellsFrom cellAt start count) index freshCell ≡ cellAt (start + index)
-unfolding cellsFrom
-cell-from cellAt start zero index inside = absurd (omega arith)
-cell-from cellAt start (suc count) zero inside = let first : start ≡ start + 0 = omega arith in ap cellAt first
-cell-from cellAt start (suc count) (suc index) inside =
-    let place : suc start + index ≡ start + suc index = omega arith in
-    cell-from cellAt (suc start) count index (omega arith) ∙ ap cellAt place
 
 pub length-rounds-of : (cs : List Cell) → length (roundsOf cs) ≡ length cs
 unfolding roundsOf
@@ -229,14 +216,14 @@ module _ (saved : List ℕ) where
   pub saved-sized : (n : ℕ) → Sized n (tablesOf (savedFrom saved 0 n))
   saved-sized n =
       let cs = savedFrom saved 0 n in
-      let many : length cs ≡ n = length-from _ 0 n in
+      let many : length cs ≡ n = length-cells _ 0 n in
       record { of-rounds = length-rounds-of cs ∙ many; of-sets = length-sets-of cs ∙ many; of-values = length-values-of cs ∙ ap (λ k. 2 * k) many }
 
   -- which are the saved ones
   pub cells-saved : (n : ℕ) → firstCells n (tablesOf (savedFrom saved 0 n)) ≡ savedFrom saved 0 n
   cells-saved n =
       let cs = savedFrom saved 0 n in
-      let many : length cs ≡ n = length-from _ 0 n in
+      let many : length cs ≡ n = length-cells _ 0 n in
       ap (λ k. firstCells k (tablesOf cs)) (sym many) ∙ cells-of-tables cs
 
 below-first : (bound number : ℕ) (numbers : List ℕ) → number < bound → Below bound numbers → Below bound (number ∷ numbers)

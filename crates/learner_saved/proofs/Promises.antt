@@ -19,13 +19,14 @@ use Rattle.player.proofs.Numbers.{one-of}
 use Rattle.quorum.specs.declared.Settings.{Settings}
 use Rattle.learner_tables.specs.Tables.{Tables, cellAt, cells, allPossible, Sized, Fitting}
 use Rattle.learner_file.specs.File.{headerLength, savedLength, versionIn, tablesOf}
-use Rattle.learner_file.proofs.Laws.{length-from, length-file, saved-sized, cells-saved, saved-fitting}
+use Rattle.columns.proofs.Walks.{length-cells}
+use Rattle.learner_file.proofs.Laws.{length-file, saved-sized, cells-saved, saved-fitting}
 use Rattle.learner_saved.specs.Saved.{version, savedTable, savedCells, save, readSaved}
 use Rattle.learner_saved.specs.Promises.{LengthSaved, save-refusals, read-refusals, Savable, Readable, SavePromises, ReadPromises}
 
 pub length-saved : LengthSaved
 unfolding savedTable
-length-saved s t = omega (arith, length-file version s (cells s t), length-from (cellAt t) 0 (s .instances))
+length-saved s t = omega (arith, length-file version s (cells s t), length-cells (cellAt t) 0 (s .instances))
 
 -- ---- the ways out, and what the last of them brings
 

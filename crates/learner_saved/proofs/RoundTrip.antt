@@ -17,7 +17,8 @@ use Rattle.learner_cell.specs.Cell.{freshCell}
 use Rattle.learner_tables.specs.Tables.{Tables, cellAt, cells, allPossible, isAllowed, learnerAllowed, Fitting}
 use Rattle.learner_tables.proofs.Laws.{allowed-tables, fitting-at}
 use Rattle.learner_file.specs.File.{headerLength, cellLength, savedLength, header, cellIn, savedCell, cellsBytes, tablesOf}
-use Rattle.learner_file.proofs.Laws.{length-header, cell-from, tables-of-cells, saved-sized, cells-saved}
+use Rattle.columns.proofs.Walks.{cell-of}
+use Rattle.learner_file.proofs.Laws.{length-header, tables-of-cells, saved-sized, cells-saved}
 use Rattle.learner_file.proofs.RoundTrip.{header-marked, header-version, header-settings, header-back, cells-back, cells-bytes-back}
 use Rattle.learner_saved.specs.Saved.{version, savedTable, savedCells, save}
 use Rattle.learner_saved.specs.Promises.{SaveThenRead, ReadThenSave, SavedCellStands, SetBits, Savable, Readable}
@@ -31,8 +32,8 @@ saved-cells-back s t fits = cells-back (cellAt t) (λ index. fitting-at t index 
 pub saved-cell-stands : SavedCellStands
 saved-cell-stands s t fits index inside =
     let place : 0 + index ≡ index = omega arith in
-    ap (savedCell (savedTable s t)) (sym place) ∙ sym (cell-from (savedCell (savedTable s t)) 0 (s .instances) index inside)
-    ∙ ap (λ cs. getD cs index freshCell) (saved-cells-back s t fits) ∙ cell-from (cellAt t) 0 (s .instances) index inside ∙ ap (cellAt t) place
+    ap (savedCell (savedTable s t)) (sym place) ∙ sym (cell-of (savedCell (savedTable s t)) freshCell 0 (s .instances) index inside)
+    ∙ ap (λ cs. getD cs index freshCell) (saved-cells-back s t fits) ∙ cell-of (cellAt t) freshCell 0 (s .instances) index inside ∙ ap (cellAt t) place
 
 pub set-bits : SetBits
 unfolding cellIn

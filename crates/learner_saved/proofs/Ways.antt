@@ -16,7 +16,8 @@ use Rattle.quorum.specs.declared.Settings.{Settings}
 use Rattle.learner_tables.specs.Tables.{Tables, cellAt, withCell, cells, allPossible, learnerAllowed}
 use Rattle.learner_tables.proofs.Laws.{Allowed, allowed-tables}
 use Rattle.learner_file.specs.File.{headerLength, savedLength, header, marked, versionIn, sameSettings, savedCell, cellsBytes, withBytes, withCellBytes, storedFrom, tablesOf}
-use Rattle.learner_file.proofs.Laws.{length-from, file-stored, tables-stored}
+use Rattle.columns.proofs.Walks.{length-cells}
+use Rattle.learner_file.proofs.Laws.{file-stored, tables-stored}
 use Rattle.learner_saved.specs.Saved.{version, savedTable, savedCells, save, readSaved}
 
 -- what settings and tables bring that the code finds allowed
@@ -55,7 +56,7 @@ module _ (s : Settings) (bytes : List ℕ) (t : Tables) (fine : Bool) (fine-so :
             → left ≡ storedFrom withCellBytes headed 0 (cells s t) → answer ≡ verdictNumber Done → outcome answer (lent left t) ≡ save s bytes t
         unfolding save need_or_then_ savedTable
         saves judged headed left answer headed-so left-so answer-so =
-            let many = length-from (cellAt t) 0 (s .instances) in
+            let many = length-cells (cellAt t) 0 (s .instances) in
             let saved : left ≡ header version s ++ cellsBytes (cells s t) =
             left-so ∙ ap (λ b. storedFrom withCellBytes b 0 (cells s t)) headed-so ∙ file-stored version s bytes (s .instances) (whole ∙ long-so) (cells s t) many in
             rw (fine-is, whole-is, ← possible-so, not-false possible judged, answer-so, saved)
@@ -111,7 +112,7 @@ module _ (s : Settings) (bytes : List ℕ) (t : Tables) (fine : Bool) (fine-so :
                   → outcome answer (lent bytes left) ≡ readSaved s bytes t
               unfolding readSaved need_or_then_
               reads judged left answer left-so answer-so =
-                  let many = length-from (savedCell bytes) 0 (s .instances) in
+                  let many = length-cells (savedCell bytes) 0 (s .instances) in
                   let replaced : left ≡ tablesOf (savedCells s bytes) =
                   left-so ∙ tables-stored (s .instances) t (allowed-tables s t fine-is .sized) (savedCells s bytes) many in
                   rw (fine-is, holds-is, mark-is, version-is, like-is, all-is, ← possible-so, not-false possible judged, answer-so, replaced)

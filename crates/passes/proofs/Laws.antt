@@ -14,6 +14,7 @@ use Rattle.numbers.specs.Fronts.{withFront}
 use Rattle.numbers.proofs.Fronts.{length-front, front-next}
 use Rattle.basics.proofs.Ladder.{by-test, if-true, if-false, both-true, and-true, or-left, or-right}
 use Rattle.columns.specs.Walks.{cellsFrom, every}
+use Rattle.columns.proofs.Walks.{length-cells, cell-of}
 use Rattle.passes.specs.declared.Pass.{Pass}
 use Rattle.passes.specs.Passes.{pass, Columns, columns, Table, table, numberIn, passAt, withPass, inUse, holding, mostPasses, numbersOf, among}
 use Rattle.passes.specs.Passes.{placeOf, twice, ridesFit, lawful, isSized, sized, sound, Fresh}
@@ -31,22 +32,10 @@ not-so false e = refl
 -- ---- walks
 
 module _ {Cell : Type 0} where
-  pub length-cells : (at : ℕ → Cell) (place count : ℕ) → length (cellsFrom at place count) ≡ count
-  unfolding cellsFrom
-  length-cells at place zero = refl
-  length-cells at place (suc count) = ap suc (length-cells at (suc place) count)
-
   map-cells : (part : Cell → ℕ) (at : ℕ → Cell) (place count : ℕ) → map part (cellsFrom at place count) ≡ cellsFrom (λ k. part (at k)) place count
   unfolding cellsFrom
   map-cells part at place zero = refl
   map-cells part at place (suc count) = ap (λ rest. part (at place) ∷ rest) (map-cells part at (suc place) count)
-
-  -- the cell at a place of a walk
-  cell-of : (at : ℕ → Cell) (none : Cell) (from count place : ℕ) → place < count → getD (cellsFrom at from count) place none ≡ at (from + place)
-  unfolding cellsFrom
-  cell-of at none from zero place low = absurd (omega arith)
-  cell-of at none from (suc count) zero low = ap at (omega arith)
-  cell-of at none from (suc count) (suc place) low = cell-of at none (suc from) count place (omega arith) ∙ ap at (omega arith)
 
   -- a walk over the elements of a list is the list
   cells-of-list : (at : ℕ → Cell) (none : Cell) (from : ℕ) (cs : List Cell) → ((place : ℕ) → place < length cs → at (from + place) ≡ getD cs place none)

@@ -7,9 +7,9 @@ use native.Mathlib.Omega.{arith}
 use borrow.Author.Tests.{not-true, not-false, eq-eqb, ne-eqb, le-leb, lt-leb}
 use Rattle.basics.specs.Ladder.{if_then_else_}
 use Rattle.columns.specs.Walks.{cellsFrom, every}
-use Rattle.columns.proofs.Walks.{cellsLeft, cells-next, cells-end}
+use Rattle.columns.proofs.Walks.{cellsLeft, cells-next, cells-end, length-cells}
 use Rattle.passes.specs.Passes.{Columns, table, numberIn, mostPasses, among, placeOf, twice, ridesFit, sized, lawful, sound}
-use Rattle.passes.proofs.Laws.{length-cells, lawful-columns, among-found, among-missing}
+use Rattle.passes.proofs.Laws.{lawful-columns, among-found, among-missing}
 
 module _ (at : (place : ℕ) → ℕ) (number place count : ℕ) where
   module _ (inside : place < count) (n : ℕ) (n-so : n ≡ at place) where
