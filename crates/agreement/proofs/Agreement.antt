@@ -49,7 +49,7 @@ module _ (s : Settings) where
     said_is_decided : (which : ℕ) (i : Instance) (v : Value) → said s w which i ≡ says v → Decided s w i v
     said_is_decided which i v e =
         let h = spoken s (w.learner which) i v e in
-        subst (Decided s w i) h.value (cell-decided (run-represents begun) which i h.below h.decided)
+        subst (Decided s w i) h.value (cell-decided (run-represents begun) which i h.below h.fine h.decided)
 
     never_nothing : allowed s ≡ true → (which : ℕ) (i : Instance) → i.0 < s.instances → said s w which i ≡ nothing → ⊥
     never_nothing ok which i below e = go (saying ok which i below)
@@ -104,8 +104,8 @@ module _ (s : Settings) where
     same-cells first second i below d e =
         let whole = joined-runs begun later in
         decided_once (run-represents whole)
-        (stays-decided later (cell-decided (run-represents begun) first (the_instance i) below d))
-        (cell-decided (run-represents whole) second (the_instance i) below e)
+        (stays-decided later (cell-decided (run-represents begun) first (the_instance i) below (((run-well-formed begun).learners first).cells i below) d))
+        (cell-decided (run-represents whole) second (the_instance i) below (((run-well-formed whole).learners second).cells i below) e)
 
   agrees : Agreement (Call s) s
   agrees = record {

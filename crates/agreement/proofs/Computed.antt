@@ -37,7 +37,6 @@ use Rattle.backup_cell.specs.Cell as backup_cell
 use Rattle.backup_rule.specs.Rule as backup_rule
 use Rattle.backup_tables.specs.Tables as backup_tables
 use Rattle.backup.specs.Backup as backup
-use Rattle.tally.specs.Tally as tally
 use Rattle.learner_cell.specs.Cell as learner_cell
 use Rattle.learner_rule.specs.Rule as learner_rule
 use Rattle.learner_tables.specs.Tables as learner_tables
@@ -79,9 +78,7 @@ unfolding ones number_at if◌then◌else◌ need◌or◌then◌ owner_of owned_
     acceptor_rule.possible acceptor_rule.order_of acceptor_rule.obeying acceptor_rule.obey acceptor_tables.tables_allowed acceptor_tables.is_allowed acceptor.acceptor acceptor.acceptor_step
     backup_cell.is_fresh backup_cell.phase_fits backup_cell.is_started backup_cell.possible backup_rule.next_round backup_rule.start backup_rule.counting backup_rule.chosen
     backup_rule.when_majority backup_rule.take_promise backup_tables.tables_allowed backup_tables.is_allowed backup.backup backup.backup_step backup.backup_start
-    tally.is_decided tally.has_vote tally.is_fresh tally.is_heard tally.possible learner_cell.some learner_cell.is_decided learner_cell.has_vote learner_cell.first_with learner_cell.value_of
-    learner_cell.is_above learner_cell.follows learner_cell.falling learner_cell.at_most_one learner_cell.possible learner_cell.entry_of learner_cell.kept learner_cell.handed_on learner_cell.with_entry
-    learner_rule.hold_or_decide learner_rule.add_voter learner_rule.count_vote
+    learner_cell.is_decided learner_cell.has_vote learner_cell.value_of learner_cell.is_fresh learner_cell.is_heard learner_cell.possible learner_rule.hold_or_decide learner_rule.add_voter learner_rule.count_vote
     learner_tables.is_allowed learner.place learner.rule learner.learner learner.learner_step learner.answer_of_cell learner.answer_at learner.answer_for
     cells_from every delivered holes.decided_end_from holes.is_hole holes.first_hole_from holes.find_hole
 both = (
@@ -110,9 +107,6 @@ both = (
     giving_up_plays = refl;
     none_when_given_up = refl;
     null_delivered = refl;
-    deciding_in_round_1_plays = refl;
-    hearing_late_plays = refl;
-    late_said = refl;
     three_of_five_plays = refl;
     five_said = refl;
     four_of_seven_plays = refl;

@@ -15,7 +15,7 @@ use Rattle.quorum.specs.Voters.{Mem}
 use Rattle.quorum.proofs.Laws.{quorums-share}
 use Rattle.quorum.proofs.Voters.{listed, set-of, half-iff}
 use Rattle.learner_cell.specs.Cell.{is_decided, value_of, possible}
-use Rattle.learner_rule.proofs.Sent.{cell-majority}
+use Rattle.learner_cell.proofs.Laws.{possible-inside}
 use Rattle.learner_tables.specs.Tables.{cell_at}
 use Rattle.agreement.specs.Run.{Caller, acceptor, Sent, sent, Boxes, Call, Later, VoteSent, Decided, WantedFor}
 use Rattle.agreement.proofs.Slot.{Slot, vote, LearnerSound}
@@ -74,20 +74,21 @@ module _ {s : Settings} {w : Boxes} (h : Represents s w) where
   pub decided-wanted : {i : Instance} {v : Value} → Decided s w i v → WantedFor w.wanted i v
   decided-wanted {i} d = h.wants.proposes i.0 _ ((h.sound i.0).vote-proposed _ (one_vote d).1)
 
-  pub cell-decided : (which : ℕ) (i : Instance) → i.0 < s.instances → is_decided s.acceptors (cell_at (w.learner which) i.0) ≡ true
-      → Decided s w i (value_of s.acceptors (cell_at (w.learner which) i.0))
-  cell-decided which i below decided =
+  pub cell-decided : (which : ℕ) (i : Instance) → i.0 < s.instances → possible s.acceptors (cell_at (w.learner which) i.0) ≡ true
+      → is_decided s.acceptors (cell_at (w.learner which) i.0) ≡ true → Decided s w i (value_of s.acceptors (cell_at (w.learner which) i.0))
+  unfolding is_decided value_of
+  cell-decided which i below fine decided =
       let c = cell_at (w.learner which) i.0 in
-      let votes = subst (LearnerSound s.acceptors (h.slots i.0).votes) (sym (h.learners which i.0 i.0 (placed-there s.instances i below)))
-      ((h.sound i.0).learners which) in
-      let m = cell-majority s.acceptors (h.slots i.0).votes c votes decided in
+      let votes = subst (LearnerSound (h.slots i.0).votes) (sym (h.learners which i.0 i.0 (placed-there s.instances i below))) ((h.sound i.0).learners which) in
+      let inside = possible-inside s.acceptors c fine in
+      let q = listed s.acceptors c.set inside in
       record {
-        round = m.0;
-        voters = m.1.voters;
-        distinct = m.1.distinct;
-        are_acceptors = m.1.are_acceptors;
-        more_than_half = m.1.more_than_half;
-        voted = λ a there. h.told.votes i _ (m.1.voted a there);
+        round = c.round;
+        voters = q.voters;
+        distinct = q.names.distinct;
+        are_acceptors = q.names.known;
+        more_than_half = (half-iff q.names).1 (record { inside = inside; enough = decided });
+        voted = λ a m. h.told.votes i _ (votes a ((q.names.members a).0 m));
       }
 
 -- What is decided stays so.

@@ -27,7 +27,7 @@ use Rattle.agreement.specs.Agreement.{Agreed}
 use Rattle.agreement.specs.Examples.{Row, primary_gets, primary_gets_by_reference, acceptor_gets, backup_starts, backup_gets, learner_gets, zeros, after, answers, was_sent}
 use Rattle.agreement.specs.Examples.{reads_request, may_hand, is_handed, played, plays, three, first, v, u, deciding, taking_over, early, taken, leaving_ahole}
 use Rattle.agreement.specs.Examples.{repairing, holed, repaired, splitting, split, five, seven, three_of_five, four_of_seven, of_five, of_seven}
-use Rattle.agreement.specs.Examples.{evening, scanning, keeping_the_scan, giving_up_the_scan, scanned, scan_kept, scan_given_up, deciding_in_round_1, hearing_late, taken_over, heard_late}
+use Rattle.agreement.specs.Examples.{evening, scanning, keeping_the_scan, giving_up_the_scan, scanned, scan_kept, scan_given_up}
 use Rattle.agreement.proofs.Finding.{was_sent, two-votes}
 use Rattle.agreement.proofs.Computed.{computed}
 use Rattle.agreement.proofs.Agreement.{agreement}
@@ -123,13 +123,6 @@ kept_run = rows_run scanned keeping_the_scan scanned-run computed.keeping_plays
 
 pub given-up-run : Run (Call evening) evening scan_given_up
 given-up-run = rows_run scanned giving_up_the_scan scanned-run computed.giving_up_plays
-
--- A vote that arrives late decides, and what the learner then says is decided.
-pub late-run : Run (Call three) three heard_late
-late-run = rows_run taken_over hearing_late (rows_run (fresh_boxes 2) deciding_in_round_1 now computed.deciding_in_round_1_plays) computed.hearing_late_plays
-
-pub late-decided : Decided three heard_late first v
-late-decided = (agreement three).said_is_decided late-run 0 first v computed.late_said
 
 -- A value is decided by three of five, and by four of seven.
 pub five-decided : Decided five of_five first v

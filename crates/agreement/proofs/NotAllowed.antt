@@ -20,7 +20,6 @@ use Rattle.acceptor_tables.specs.Tables as acceptor_tables
 use Rattle.acceptor.specs.Acceptor as acceptor
 use Rattle.backup_tables.specs.Tables as backup_tables
 use Rattle.backup.specs.Backup as backup
-use Rattle.tallies.specs.Tables as tallies
 use Rattle.learner_tables.specs.Tables as learner_tables
 use Rattle.learner.specs.declared.Answer.TheVariants as answers
 use Rattle.learner.specs.Learner as learner
@@ -42,10 +41,6 @@ module _ (s : Settings) (never : allowed s ≡ false) where
   learner-never : (t : learner_tables.Tables) → learner_tables.learner_allowed s t ≡ false
   unfolding learner_tables.is_allowed
   learner-never t = rw never
-
-  tallies-never : (t : learner_tables.Tables) → tallies.tables_allowed s t ≡ false
-  unfolding tallies.is_allowed
-  tallies-never t = rw never
 
   backup-never : (own : ℕ) (t : backup_tables.Tables) → backup_tables.backup_allowed s own t ≡ false
   unfolding backup_tables.tables_allowed backup_tables.is_allowed
@@ -91,7 +86,7 @@ module _ (s : Settings) (never : allowed s ≡ false) where
 
   save-by-7 : (buffer : List ℕ) (t : learner_tables.Tables) → (save s buffer t).answer ≡ 7
   unfolding save
-  save-by-7 buffer t = ap (λ (o : Outcome (Lent learner_tables.Tables)). o.answer) (need-failed _ _ (tallies-never t))
+  save-by-7 buffer t = ap (λ (o : Outcome (Lent learner_tables.Tables)). o.answer) (need-failed _ _ (learner-never t))
 
   -- ---- nothing is sent
 

@@ -57,6 +57,7 @@ use Rattle.learner.proofs.Laws as learner-laws
 use Rattle.learner_holes.specs.declared.Hole.TheVariants as holes
 use Rattle.learner_delivery.specs.Delivery.{deliver}
 use Rattle.learner_holes.specs.Holes.{is_hole, first_hole_from, find_hole}
+use Rattle.learner_saved.specs.Saved.{save}
 use Rattle.agreement.specs.Run.{Boxes, primary_record}
 use Rattle.agreement.specs.Agreement.{Neither7Nor17, NeverBy7Or17}
 use Rattle.agreement.proofs.WellFormed.{WellFormed, request-is-step}
@@ -140,9 +141,10 @@ learner-rules M c m fine =
     passing Rules _ _ fine
     (need-elim Rules _ _ _ (neither 14 refl refl) λ _.
     need-elim Rules _ _ _ (neither 10 refl refl) λ _.
-    need-elim Rules _ _ _ (neither 13 refl refl) λ _.
-    need-elim Rules _ _ _ (neither 15 refl refl) λ _.
-    if-elim Rules _ _ _ (λ _. neither 105 refl refl) (λ _. neither 104 refl refl)))
+    if-elim Rules _ _ _
+    (λ _. need-elim Rules _ _ _ (neither 13 refl refl) λ _. need-elim Rules _ _ _ (neither 15 refl refl) λ _.
+    if-elim Rules _ _ _ (λ _. neither 105 refl refl) (λ _. neither 104 refl refl))
+    (λ _. if-elim Rules _ _ _ (λ _. neither 105 refl refl) (λ _. neither 104 refl refl))))
     (neither 6 refl refl)
 
 -- ---- a learner's calls over all cells
@@ -188,6 +190,13 @@ module _ {s : Settings} {w : Boxes} (ok : allowed s ≡ true) (formed : WellForm
         passing (λ (o : Outcome (Lent ℕ)). Neither7Nor17 o.answer) _ _ learner-ok
         (need-elim (λ (o : Outcome (Lent ℕ)). Neither7Nor17 o.answer) _ _ _ (neither 1 refl refl) λ _.
         passing (λ (o : Outcome (Lent ℕ)). Neither7Nor17 o.answer) _ _ cells-ok (neither 106 refl refl))
+
+    saves : (buffer : List ℕ) → Neither7Nor17 (save s buffer t).answer
+    unfolding save
+    saves buffer =
+        passing (λ (o : Outcome (Lent learner_tables.Tables)). Neither7Nor17 o.answer) _ _ learner-ok
+        (need-elim (λ (o : Outcome (Lent learner_tables.Tables)). Neither7Nor17 o.answer) _ _ _ (neither 1 refl refl) λ _.
+        passing (λ (o : Outcome (Lent learner_tables.Tables)). Neither7Nor17 o.answer) _ _ cells-ok (neither 106 refl refl))
 
     finds : (number : ℕ) → find_hole s t ≡ holes.Refused number → ⊥
     unfolding find_hole
@@ -239,5 +248,6 @@ module _ {s : Settings} {w : Boxes} (ok : allowed s ≡ true) (formed : WellForm
         ((formed.learners which).cells index (learner-laws.placed_below N m index stands)));
     answers = answered;
     deliveries = delivers;
+    savings = saves;
     holes = finds;
   }

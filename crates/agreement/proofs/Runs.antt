@@ -3,7 +3,7 @@
 use Prim.Native.Nat.{ℕ}
 use mathlib.Core.Path.{◌≡◌, refl, sym, ap, ◌∙◌, subst}
 use mathlib.Core.Bool.{true, true≢false}
-use mathlib.Core.List.{List, []}
+use mathlib.Core.List.{List}
 use native.Mathlib.Omega.{arith}
 use Rattle.basics.specs.Rounds.{the_instance, none}
 use Rattle.basics.proofs.Places.{placed-index}
@@ -24,7 +24,6 @@ use Rattle.backup_tables.proofs.Laws as backup-tables
 use Rattle.learner_cell.specs.Cell.{is_decided}
 use Rattle.learner_tables.specs.Tables.{cell_at}
 use Rattle.learner_tables.proofs.Laws as learner-tables
-use Rattle.learner_rule.proofs.Sent.{fresh-cell-sent}
 use Rattle.learner.specs.Learner.{learner_step}
 use Rattle.learner.proofs.Promises as learner
 use Rattle.agreement.specs.Run.{Caller, the_primary, Sent, Boxes, fresh_boxes, primary_record, sending, after_primary, Call, Later, now, and_then, Run}
@@ -54,7 +53,7 @@ fresh-sound M = record {
   propose-once = λ x. nowhere;
   propose-safe = λ x. nowhere;
   backups = λ b. record { counted = λ a m. absurd (omega (arith, empty-bit a, m)); proposed = λ voted. absurd (true≢false voted) };
-  learners = λ l. fresh-cell-sent M [];
+  learners = λ l a m. absurd (omega (arith, empty-bit a, m));
 }
 
 -- an idle backup does not ask

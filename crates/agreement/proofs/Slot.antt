@@ -23,9 +23,6 @@ use Rattle.backup_cell.specs.declared.Cell as backups
 use Rattle.backup_cell.specs.Cell as backup_cell
 use Rattle.learner_cell.specs.declared.Cell as learners
 use Rattle.learner_cell.specs.Cell as learner_cell
-use Rattle.learner_cell.proofs.Laws.{Each}
-pub use Rattle.learner_rule.specs.Rule.{Vote, vote}
-use Rattle.learner_rule.proofs.Sent.{SentIn}
 
 -- A promise that was sent: the acceptor, the round, and its vote round and value at that moment.
 pub record Promise : Type 0 where
@@ -38,11 +35,19 @@ pub record Propose : Type 0 where
   pub round : Round
   pub value : Value
 
+pub record Vote : Type 0 where
+  pub sender : ℕ
+  pub round : Round
+  pub value : Value
+
 abbrev pub promise : ℕ → (round vote_round : Round) → Value → Promise
 promise sender round vote_round value = record { sender = sender; round = round; vote_round = vote_round; value = value }
 
 abbrev pub propose : Round → Value → Propose
 propose round value = record { round = round; value = value }
+
+abbrev pub vote : ℕ → Round → Value → Vote
+vote sender round value = record { sender = sender; round = round; value = value }
 
 pub record Slot : Type 0 where
   pub acceptor : ℕ → acceptors.Cell
@@ -83,9 +88,9 @@ pub record BackupSound (promises : List Promise) (proposes : List Propose) (c : 
   pub counted : (a : ℕ) → Member a c.set → Counted promises c.round c.best_vote_round a
   pub proposed : is_none c.best_vote_round ≡ false → Mem (propose c.best_vote_round c.best_value) proposes
 
--- In each entry of a learner's cell, whoever is in the set is an acceptor and sent that vote.
-abbrev pub LearnerSound : (M : ℕ) → (votes : List Vote) → learners.Cell → Type 0
-LearnerSound M votes c = Each (SentIn M votes) c
+-- Each acceptor in a learner's set sent that vote.
+abbrev pub LearnerSound : (votes : List Vote) → learners.Cell → Type 0
+LearnerSound votes t = (a : ℕ) → Member a t.set → Mem (vote a t.round t.value) votes
 
 pub record Sound (M : ℕ) (s : Slot) : Type 0 where
   -- votes come from proposes, and an acceptor's cell knows its latest
@@ -103,7 +108,7 @@ pub record Sound (M : ℕ) (s : Slot) : Type 0 where
   pub propose-once : (x : Propose) → Mem x s.proposes → (y : Propose) → Mem y s.proposes → x.round.0 ≡ y.round.0 → x.value ≡ y.value
   pub propose-safe : (x : Propose) → Mem x s.proposes → (r : ℕ) → r < x.round.0 → Barred M s.acceptor s.votes r x.value
   pub backups : (b : ℕ) → BackupSound s.promises s.proposes (s.backup b)
-  pub learners : (l : ℕ) → LearnerSound M s.votes (s.learner l)
+  pub learners : (l : ℕ) → LearnerSound s.votes (s.learner l)
 
 -- Only the primary proposes in round 0, and it has not yet.
 abbrev pub Unopened : Slot → Type 0

@@ -48,8 +48,7 @@ pub record Neither7Nor17 (number : ℕ) : Type 0 where
   pub not_7 : number ≡ 7 → ⊥
   pub not_17 : number ≡ 17 → ⊥
 
--- No player refuses by 7 or 17, whatever the packet, the buffer and what a start is given. (A hole call has no other refusals. Saving, over tables of one round to a
--- cell, refuses a learner's own by 7.)
+-- No player refuses by 7 or 17, whatever the packet, the buffer and what a start is given. (A hole call has no other refusals.)
 pub record NeverBy7Or17 (s : Settings) (w : Boxes) : Type 0 where
   pub primary : (p : List ℕ) → Neither7Nor17 (primary_step s p w.primary).answer
   pub requests : (p : List ℕ) → Neither7Nor17 (primary_request s p (primary_record w)).answer
@@ -60,6 +59,7 @@ pub record NeverBy7Or17 (s : Settings) (w : Boxes) : Type 0 where
   pub learners : (which : ℕ) (p : List ℕ) → Neither7Nor17 (learner_step s p (w.learner which)).answer
   pub answers : (which : ℕ) (instance : Instance) (number : ℕ) → answer_for s instance (w.learner which) ≡ answers.Refused number → Neither7Nor17 number
   pub deliveries : (which : ℕ) (buffer : List ℕ) (count : ℕ) → Neither7Nor17 (deliver s (w.learner which) buffer count).answer
+  pub savings : (which : ℕ) (buffer : List ℕ) → Neither7Nor17 (save s buffer (w.learner which)).answer
   pub holes : (which number : ℕ) → find_hole s (w.learner which) ≡ holes.Refused number → ⊥
 
 -- Every call is refused by 7, whatever its packet and its tables; and nothing was sent.

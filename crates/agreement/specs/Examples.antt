@@ -1,7 +1,7 @@
 -- Runs, call by call: who is handed which message, as its packet's bytes, and what the call answers. In the first a value
 -- is decided and a backup takes over while old packets still travel; in the second a backup repairs a hole with the null value; in the third one vote is lost;
--- in the fourth the last scan of the evening has one vote, and a backup repairs it; in the fifth a vote arrives after one of a later round; in the last two a
--- majority of 5 and of 7 decides. The primary's record is lent as a slice, and once by reference.
+-- in the fourth the last scan of the evening has one vote, and a backup repairs it; in the last two a majority of 5 and of 7 decides. The primary's record is
+-- lent as a slice, and once by reference.
 -- Assumes nothing.
 use Rattle.std.specs.Prelude.{ℕ, ◌^◌, ◌≡◌, Bool, true, false, ◌&&◌, ◌||◌, List, [], ◌∷◌, eqb, ltb, replicate}
 use Rattle.basics.specs.declared.Instance.{Instance}
@@ -148,13 +148,13 @@ taking_over =
     ∷ backup_gets 1 (Promise 1 first (the_round 1) (the_round 0) v) to_acceptors
     ∷ acceptor_gets 2 (Propose first (the_round 1) v) to_learners
     ∷ acceptor_gets 0 (Propose first (the_round 1) v) to_learners
-    -- learner 0 hears the old votes alone, learner 1 one of them late, after a new one, and then it is fixed
+    -- learner 0 hears the old votes alone, learner 1 the new ones after an old one, and another old one late
     ∷ learner_gets 0 (Vote 0 first (the_round 0) v) hold
     ∷ learner_gets 0 (Vote 1 first (the_round 0) v) decided
     ∷ learner_gets 1 (Vote 1 first (the_round 0) v) hold
     ∷ learner_gets 1 (Vote 2 first (the_round 1) v) hold
-    ∷ learner_gets 1 (Vote 0 first (the_round 0) v) decided
-    ∷ learner_gets 1 (Vote 0 first (the_round 1) v) 14
+    ∷ learner_gets 1 (Vote 0 first (the_round 0) v) 10
+    ∷ learner_gets 1 (Vote 0 first (the_round 1) v) decided
     ∷ []
 
 abbrev pub early : Boxes
@@ -287,40 +287,6 @@ scan_kept = played evening scanned keeping_the_scan
 abbrev pub scan_given_up : Boxes
 scan_given_up = played evening scanned giving_up_the_scan
 
--- ---- votes that arrive late
-
--- Backup 1 decides v in round 1, by acceptors 0 and 1; backup 2 takes over, and v binds it.
-abbrev pub deciding_in_round_1 : List Row
-deciding_in_round_1 =
-    backup_starts 1 first 0 v to_acceptors
-    ∷ acceptor_gets 0 (Prepare first (the_round 1)) to_leader
-    ∷ acceptor_gets 1 (Prepare first (the_round 1)) to_leader
-    ∷ backup_gets 1 (Promise 0 first (the_round 1) none null) hold
-    ∷ backup_gets 1 (Promise 1 first (the_round 1) none null) to_acceptors
-    ∷ acceptor_gets 0 (Propose first (the_round 1) v) to_learners
-    ∷ acceptor_gets 1 (Propose first (the_round 1) v) to_learners
-    ∷ backup_starts 2 first 0 u to_acceptors
-    ∷ acceptor_gets 1 (Prepare first (the_round 2)) to_leader
-    ∷ acceptor_gets 2 (Prepare first (the_round 2)) to_leader
-    ∷ backup_gets 2 (Promise 2 first (the_round 2) none null) hold
-    ∷ backup_gets 2 (Promise 1 first (the_round 2) (the_round 1) v) to_acceptors
-    ∷ acceptor_gets 2 (Propose first (the_round 2) v) to_learners
-    ∷ []
-
--- The learner hears rounds 1, 2 and 1.
-abbrev pub hearing_late : List Row
-hearing_late =
-    learner_gets 0 (Vote 0 first (the_round 1) v) hold
-    ∷ learner_gets 0 (Vote 2 first (the_round 2) v) hold
-    ∷ learner_gets 0 (Vote 1 first (the_round 1) v) decided
-    ∷ []
-
-abbrev pub taken_over : Boxes
-taken_over = played three (fresh_boxes 2) deciding_in_round_1
-
-abbrev pub heard_late : Boxes
-heard_late = played three taken_over hearing_late
-
 -- ---- five acceptors, and seven
 
 abbrev pub five : Settings
@@ -396,9 +362,6 @@ pub record Computed : Type 0 where
   pub giving_up_plays : plays evening scanned giving_up_the_scan ≡ true
   pub none_when_given_up : find_hole evening (scan_given_up.learner 0) ≡ holes.NoHole
   pub null_delivered : delivered_by evening scan_given_up 0 ≡ v ∷ u ∷ null ∷ []
-  pub deciding_in_round_1_plays : plays three (fresh_boxes 2) deciding_in_round_1 ≡ true
-  pub hearing_late_plays : plays three taken_over hearing_late ≡ true
-  pub late_said : said three heard_late 0 first ≡ says v
   pub three_of_five_plays : plays five (fresh_boxes 1) three_of_five ≡ true
   pub five_said : said five of_five 0 first ≡ says v
   pub four_of_seven_plays : plays seven (fresh_boxes 1) four_of_seven ≡ true

@@ -24,7 +24,6 @@ use Rattle.backup_cell.specs.Cell as backup_cell
 use Rattle.backup_tables.specs.Tables as backup_tables
 use Rattle.backup.specs.Backup as backups
 use Rattle.learner_cell.specs.declared.Cell as learner_cells
-use Rattle.learner_cell.specs.Cell.{entry_of}
 use Rattle.learner_tables.specs.Tables as learner_tables
 use Rattle.learner.specs.Learner as learners
 use Rattle.agreement.specs.Run.{Caller, the_primary, acceptor, backup, learner, Boxes, fresh_boxes, after_primary, after_acceptor, after_backup, after_learner}
@@ -174,7 +173,7 @@ voting_for_both =
 
 -- Each vote packet counts as from the next acceptor: the set holds the numbers from 0 on.
 abbrev pub counts_vote_packets : learner_cells.Cell → Message → Ruling learner_cells.Cell
-counts_vote_packets c = when_vote (λ sender instance round value. learners.rule 3 c (Vote (size (entry_of round c).set) instance round value)) (refused 6)
+counts_vote_packets c = when_vote (λ sender instance round value. learners.rule 3 c (Vote (size c.set) instance round value)) (refused 6)
 
 -- Acceptor 0 alone voted for v, the others' u is decided; learner 1 has heard acceptor 0.
 abbrev pub hearing_one : List Row

@@ -23,15 +23,11 @@ pub if-false : {A : Type 0} {b : Bool} (x y : A) → b ≡ false → (if b then 
 unfolding if◌then◌else◌
 if-false x y e = rw e
 
--- what holds of the refusal if the test fails, and of what is behind the test if it passes, holds of the ladder
-pub need-cases : {A : Type 0} (P : A → Type 0) (b : Bool) (x y : A) → (b ≡ false → P x) → (b ≡ true → P y) → P (need b or x then y)
-unfolding need◌or◌then◌
-need-cases P true x y no_way go_on = go_on refl
-need-cases P false x y no_way go_on = no_way refl
-
--- the same, where the refusal needs no reason
+-- what holds of the refusal, and of what is behind the test if it passes, holds of the ladder
 pub need-elim : {A : Type 0} (P : A → Type 0) (b : Bool) (x y : A) → P x → (b ≡ true → P y) → P (need b or x then y)
-need-elim P b x y no_way go_on = need-cases P b x y (λ _. no_way) go_on
+unfolding need◌or◌then◌
+need-elim P true x y no_way go_on = go_on refl
+need-elim P false x y no_way go_on = no_way
 
 pub need-passed : {A : Type 0} {b : Bool} (x y : A) → b ≡ true → (need b or x then y) ≡ y
 unfolding need◌or◌then◌

@@ -5,7 +5,7 @@ use mathlib.Core.Bool.{false≢true}
 use borrow.Author.Tests.{eqb-false}
 use Rattle.basics.specs.declared.Round.{Round}
 use Rattle.basics.specs.Ladder.{if◌then◌else◌}
-use Rattle.basics.specs.Rounds.{the_round, none, is_none, owner_of, owned_or_0, owned_not_0, rank, at_most, same_round}
+use Rattle.basics.specs.Rounds.{the_round, none, is_none, owner_of, owned_or_0, owned_not_0, rank, at_most}
 use Rattle.basics.proofs.Ladder.{by-test, if-true, if-false, both_true, if-elim, and-true}
 
 -- ---- the order
@@ -29,25 +29,6 @@ rank-some r e = if-false 0 (r.0 + 1) e ∙ omega arith
 
 pub rank_most : (r : Round) → rank r ≤ suc r.0
 rank_most r = by-test (is_none r) (λ e. omega (arith, rank-none r e)) (λ e. omega (arith, rank-some r e))
-
--- a round stands at one place of the order
-pub rank-once : (a b : Round) → rank a ≡ rank b → a ≡ b
-rank-once a b same =
-    by-test (is_none a)
-    (λ a-none. by-test (is_none b) (λ b-none. same_number (eqb-true a.0 4294967295 a-none ∙ sym (eqb-true b.0 4294967295 b-none)))
-    (λ b-some. absurd (omega (arith, same, rank-none a a-none, rank-some b b-some))))
-    (λ a-some. by-test (is_none b) (λ b-none. absurd (omega (arith, same, rank-some a a-some, rank-none b b-none)))
-    (λ b-some. same_number (omega (arith, same, rank-some a a-some, rank-some b b-some))))
-  where
-    same_number : a.0 ≡ b.0 → a ≡ b
-    same_number number = λ i. the_round (number i)
-
--- and is the same as another by its number
-pub same-round : (a b : Round) → same_round a b ≡ true → a ≡ b
-same-round a b e = λ i. the_round (eqb-true a.0 b.0 e i)
-
-pub other-round : (a b : Round) → same_round a b ≡ false → rank a ≡ rank b → ⊥
-other-round a b e same = eqb-false a.0 b.0 e (ap (λ (r : Round). r.0) (rank-once a b same))
 
 -- ---- the owners
 

@@ -6,7 +6,6 @@ use mathlib.Core.Path.{◌≡◌, refl, sym, ap, ◌∙◌, subst}
 use mathlib.Core.Bool.{true, false≢true}
 use mathlib.Core.List.{List, [], ◌∷◌}
 use native.Mathlib.Decide.{ℕ_discrete}
-use native.Mathlib.Omega.{arith}
 use Rattle.basics.specs.declared.Verdict.TheVariants.{Decided}
 use Rattle.basics.proofs.Ladder.{if-elim}
 use Rattle.messages.specs.declared.Message.{Message}
@@ -58,7 +57,8 @@ counted-quiet M c = if-elim Quiet _ _ _ (λ _. tt) (λ _. tt)
 decided-refuses : (M : ℕ) (c : Cell) (m : Message) (Such : Cell → Type 0) → is_decided M c ≡ true → NextCell Such (rule M c m)
 decided-refuses M c m Such over =
     rule-elim (NextCell Such) M c m
-    (λ a i r v _. counting-elim (NextCell Such) M c a r v tt tt tt tt tt tt (λ counts. absurd (false≢true (sym counts.undecided ∙ over))))
+    (λ a i r v _. counting-elim (NextCell Such) M c a r v tt tt tt tt tt tt (λ _ _ undecided _ _. absurd (false≢true (sym undecided ∙ over)))
+    (λ _ _ undecided _ _ _. absurd (false≢true (sym undecided ∙ over))))
     tt
 
 module _ (s : Settings) where
@@ -69,7 +69,8 @@ module _ (s : Settings) where
       step-elim (learner s) packet t (λ o. o.left.packet ≡ packet) refl (λ _ _. refl) (λ _ _ _ _. refl)
       (λ _ m _ index _. quiet-packet packet t (with_cell t index) _
       (rule-elim Quiet s.acceptors (cell_at t index) m
-      (λ a i r v _. counting-elim Quiet s.acceptors (cell_at t index) a r v tt tt tt tt tt tt (λ _. counted-quiet s.acceptors _))
+      (λ a i r v _. counting-elim Quiet s.acceptors (cell_at t index) a r v tt tt tt tt tt tt (λ _ _ _ _ _. counted-quiet s.acceptors _)
+      (λ _ _ _ _ _ _. counted-quiet s.acceptors _))
       tt))
 
   -- a decided cell never moves again
@@ -91,7 +92,7 @@ module _ (s : Settings) where
       (λ m. place-elim (λ n. OneOf n refusals) s.instances m (one_of 6 refusals refl) (one_of 8 refusals refl))
       (λ c m. rule-elim (RuledBy refusals verdicts) s.acceptors c m
       (λ a i r v _. counting-elim (RuledBy refusals verdicts) s.acceptors c a r v (one_of 9 refusals refl) (one_of 17 refusals refl) (one_of 14 refusals refl)
-      (one_of 10 refusals refl) (one_of 13 refusals refl) (one_of 15 refusals refl) (λ _. counted-by s.acceptors _))
+      (one_of 10 refusals refl) (one_of 13 refusals refl) (one_of 15 refusals refl) (λ _ _ _ _ _. counted-by s.acceptors _) (λ _ _ _ _ _ _. counted-by s.acceptors _))
       (one_of 6 refusals refl))
 
   pub learner-refusal-keeps-all : RefusalKeepsAll (learner_step s)
@@ -110,8 +111,7 @@ module _ (s : Settings) where
       (possible s.acceptors)
       (λ c m kept. rule-elim (NextCell (λ d. possible s.acceptors d ≡ true)) s.acceptors c m
       (λ a i r v e. let here = subst (λ n. keeps_table (fields_of n) ≡ true) e kept in
-      let low = vote-sender a i r v here in
-      counted-possible s.acceptors c a r v (omega (arith, low)) (vote-owned a i r v here))
+      counted-possible s.acceptors c a r v (vote-sender a i r v here) (vote-owned a i r v here))
       tt)
 
   pub learner-fitting-stays : FittingStays (learner_step s) Fitting
@@ -120,9 +120,8 @@ module _ (s : Settings) where
       fitting_stays (learner s) Fitting
       (λ t m index _ fits writable. rule-elim (NextCell (λ c. Fitting (with_cell t index c))) s.acceptors (cell_at t index) m
       (λ a i r v e. let w = subst Writable e writable in
-      let low = vote-sender a i r v w.kept in
       next-cell CellFits (λ c. Fitting (with_cell t index c)) (λ c cell-fits. fitting-with t index c fits cell-fits) (count_vote s.acceptors (cell_at t index) a r v)
-      (counted-fits s.acceptors (cell_at t index) a r v (fitting-at t index fits) (omega (arith, low)) (vote-fits a i r v w).round_fits (vote-value-fits a i r v w)))
+      (counted-fits s.acceptors (cell_at t index) a r v (fitting-at t index fits) (vote-sender a i r v w.kept) (vote-fits a i r v w).round_fits (vote-value-fits a i r v w)))
       tt)
 
   -- the tables keep their sizes

@@ -1,88 +1,43 @@
--- What a learner keeps of one instance: up to four rounds, each with set and value, highest first. Entries that hold no round are fresh, and last.
+-- A learner's cell, the votes of one round: round (fresh none), set of voters (fresh empty), value (fresh null).
 -- Assumes nothing.
-use Rattle.std.specs.Prelude.{ℕ, Bool, true, false, not, ◌&&◌, ◌||◌, List, [], ◌∷◌}
+use Rattle.std.specs.Prelude.{ℕ, Bool, not, ◌&&◌, ◌||◌, eqb, leb}
 use Rattle.basics.specs.declared.Round.{Round}
 use Rattle.basics.specs.declared.Value.{Value}
-use Rattle.basics.specs.Ladder.{if◌then◌else◌}
-use Rattle.basics.specs.Rounds.{is_none, same_round, at_most}
-use Rattle.columns.specs.Walks.{every}
-use Rattle.tally.specs.declared.Tally.{Tally}
-use Rattle.tally.specs.Tally as entry
-use Rattle.tally.specs.Tally.{fresh_tally}
+use Rattle.basics.specs.Rounds.{none, is_none, owned_or_0}
+use Rattle.basics.specs.Values.{null, is_null}
+use Rattle.quorum.specs.Quorum.{majority, with_member, within, size, reaches_majority}
 use Rattle.learner_cell.specs.declared.Cell.{Cell}
 
-abbrev pub cell : (first second third fourth : Tally) → Cell
-cell first second third fourth = record { first = first; second = second; third = third; fourth = fourth }
+abbrev pub cell : Round → (set : ℕ) → Value → Cell
+cell round set value = record { round = round; set = set; value = value }
 
 abbrev pub fresh_cell : Cell
-fresh_cell = cell fresh_tally fresh_tally fresh_tally fresh_tally
+fresh_cell = cell none 0 null
 
--- Its entries, highest first.
-abbrev pub entries : Cell → List Tally
-entries c = c.first ∷ c.second ∷ c.third ∷ c.fourth ∷ []
-
--- Some entry of a list passes the test.
-unfoldable pub some : (test : Tally → Bool) → List Tally → Bool
-some test [] = false
-some test (t ∷ ts) = test t || some test ts
-
--- An instance is decided as soon as one held round reaches majority.
+-- An instance is decided when its set has at least majority bits set.
 unfoldable pub is_decided : (M : ℕ) → Cell → Bool
-is_decided M c = some (entry.is_decided M) (entries c)
+is_decided M c = reaches_majority M c.set
 
--- With a vote in a set, whatever that is for.
+-- With a vote in its set, whatever that is for.
 unfoldable pub has_vote : Cell → Bool
-has_vote c = some entry.has_vote (entries c)
+has_vote c = not (eqb c.set 0)
 
--- The first entry of a list that passes the test; a fresh one, where none does.
-unfoldable pub first_with : (test : Tally → Bool) → List Tally → Tally
-first_with test [] = fresh_tally
-first_with test (t ∷ ts) = if test t then t else first_with test ts
-
--- The value of the entry that reaches majority.
+-- The value of a decided cell.
 unfoldable pub value_of : (M : ℕ) → Cell → Value
-value_of M c = (first_with (entry.is_decided M) (entries c)).value
+value_of M c = c.value
 
--- The entry is of a higher round than this.
-unfoldable pub is_above : Round → Tally → Bool
-is_above round t = not (at_most t.round round)
+-- Fresh in every field.
+unfoldable pub is_fresh : Cell → Bool
+is_fresh c = is_none c.round && eqb c.set 0 && is_null c.value
 
--- Rounds falling: what follows an entry is of a lower round, or holds none.
-unfoldable pub follows : Tally → Tally → Bool
-follows upper lower = is_none lower.round || is_above lower.round upper
+-- Round owned (or 0), set within M, not empty, at most majority bits.
+unfoldable pub is_heard : (M : ℕ) → Cell → Bool
+is_heard M c = owned_or_0 c.round && within M c.set && not (eqb c.set 0) && leb (size c.set) (majority M)
 
-unfoldable pub falling : List Tally → Bool
-falling [] = true
-falling (t ∷ []) = true
-falling (t ∷ u ∷ us) = follows t u && falling (u ∷ us)
-
--- At most one entry of a list passes the test.
-unfoldable pub at_most_one : (test : Tally → Bool) → List Tally → Bool
-at_most_one test [] = true
-at_most_one test (t ∷ ts) = not (test t && some test ts) && at_most_one test ts
-
--- "Possible cells hold rounds falling, each set as in 01, at most one with majority."
+-- Possible: fresh; or heard.
 unfoldable pub possible : (M : ℕ) → Cell → Bool
-possible M c = falling (entries c) && every (entry.possible M) (entries c) && at_most_one (entry.is_decided M) (entries c)
+possible M c = is_fresh c || is_heard M c
 
--- The entry of a round; a fresh one, where the round is not held.
-unfoldable pub entry_of : Round → Cell → Tally
-entry_of round c = first_with (λ t. same_round round t.round) (entries c)
-
--- A new entry takes the place of one of its own round, and of one below it, which is handed on to the next place.
-unfoldable pub kept : (new old : Tally) → Tally
-kept new old = if at_most old.round new.round then new else old
-
-unfoldable pub handed_on : (new old : Tally) → Tally
-handed_on new old =
-    if same_round new.round old.round then fresh_tally else
-    if at_most old.round new.round then old else
-    new
-
--- So it comes to its place, and what the last place hands on is pushed out.
-unfoldable pub with_entry : Cell → (new : Tally) → Cell
-with_entry c new =
-    let second = handed_on new c.first in
-    let third = handed_on second c.second in
-    let fourth = handed_on third c.third in
-    cell (kept new c.first) (kept second c.second) (kept third c.third) (kept fourth c.fourth)
+-- The cell of a round and value with one more voter, whose set was this before.
+abbrev pub with_voter : (before sender : ℕ) → Round → Value → Cell
+with_voter before sender round value = cell round (with_member before sender) value

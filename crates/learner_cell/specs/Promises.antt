@@ -1,4 +1,4 @@
--- What is promised of a learner's cell of up to four rounds, fresh.
+-- What is promised of a learner's cell, fresh.
 -- Assumes nothing.
 use Rattle.std.specs.Prelude.{ℕ, ◌≡◌, true, false}
 use Rattle.learner_cell.specs.Cell.{fresh_cell, is_decided, possible}

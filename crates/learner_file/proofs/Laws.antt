@@ -20,9 +20,9 @@ use Rattle.columns.specs.Columns.{Below}
 use Rattle.columns.specs.Walks.{cells_from}
 use Rattle.columns.proofs.Walks.{length-cells}
 use Rattle.quorum.specs.declared.Settings.{Settings}
-use Rattle.tally.specs.declared.Tally.{Tally}
-use Rattle.tally.specs.Tally.{tally}
-use Rattle.tallies.specs.Tables.{Tables, tables, cell_at, with_cell, first_cells, Sized, Fitting}
+use Rattle.learner_cell.specs.declared.Cell.{Cell}
+use Rattle.learner_cell.specs.Cell.{cell, fresh_cell}
+use Rattle.learner_tables.specs.Tables.{Tables, tables, cell_at, with_cell, first_cells, Sized, Fitting}
 use Rattle.learner_file.specs.File.{header_length, cell_length, saved_length, header, cell_bytes, cell_in, cells_bytes}
 use Rattle.learner_file.specs.File.{saved_from, rounds_of, sets_of, values_of, tables_of, with_bytes, with_cell_bytes, stored_from}
 
@@ -32,35 +32,35 @@ pub length-header : (version : ℕ) (s : Settings) → length (header version s)
 unfolding header
 length-header version s = refl
 
-pub length-cell : (c : Tally) → length (cell_bytes c) ≡ cell_length
+pub length-cell : (c : Cell) → length (cell_bytes c) ≡ cell_length
 unfolding cell_bytes
 length-cell c = refl
 
-pub length-cells-bytes : (cs : List Tally) → length (cells_bytes cs) ≡ cell_length * length cs
+pub length-cells-bytes : (cs : List Cell) → length (cells_bytes cs) ≡ cell_length * length cs
 unfolding cells_bytes
 length-cells-bytes [] = refl
 length-cells-bytes (c ∷ cs) = omega (arith, length-append (cell_bytes c) (cells_bytes cs), length-cell c, length-cells-bytes cs)
 
-pub length-rounds-of : (cs : List Tally) → length (rounds_of cs) ≡ length cs
+pub length-rounds-of : (cs : List Cell) → length (rounds_of cs) ≡ length cs
 unfolding rounds_of
 length-rounds-of [] = refl
 length-rounds-of (c ∷ cs) = ap suc (length-rounds-of cs)
 
-pub length-sets-of : (cs : List Tally) → length (sets_of cs) ≡ length cs
+pub length-sets-of : (cs : List Cell) → length (sets_of cs) ≡ length cs
 unfolding sets_of
 length-sets-of [] = refl
 length-sets-of (c ∷ cs) = ap suc (length-sets-of cs)
 
-pub length_values_of : (cs : List Tally) → length (values_of cs) ≡ 2 * length cs
+pub length_values_of : (cs : List Cell) → length (values_of cs) ≡ 2 * length cs
 unfolding values_of
 length_values_of [] = refl
 length_values_of (c ∷ cs) = omega (arith, length_values_of cs)
 
 -- ---- cells stored one behind the other, from the first on: what holds after each cell holds after all
 
-module _ {Holder : Type 0} (store : Holder → ℕ → Tally → Holder) (done : List Tally → Holder) (count : ℕ)
-    (next : (cs : List Tally) (c : Tally) → length cs < count → store (done cs) (length cs) c ≡ done (cs ++ (c ∷ []))) where
-  stored-behind : (cs others : List Tally) → length cs + length others ≤ count → stored_from store (done cs) (length cs) others ≡ done (cs ++ others)
+module _ {Holder : Type 0} (store : Holder → ℕ → Cell → Holder) (done : List Cell → Holder) (count : ℕ)
+    (next : (cs : List Cell) (c : Cell) → length cs < count → store (done cs) (length cs) c ≡ done (cs ++ (c ∷ []))) where
+  stored-behind : (cs others : List Cell) → length cs + length others ≤ count → stored_from store (done cs) (length cs) others ≡ done (cs ++ others)
   unfolding stored_from
   stored-behind cs [] fits = ap done (sym (append-nil cs))
   stored-behind cs (c ∷ others) fits =
@@ -75,7 +75,7 @@ pub stored_bytes : (buffer : List ℕ) (at : ℕ) (bytes : List ℕ) → at + le
 unfolding with_bytes
 stored_bytes buffer at bytes inside = rw (le-leb (at + length bytes) (length buffer) inside)
 
-last-bytes : (cs : List Tally) (c : Tally) → cells_bytes (cs ++ (c ∷ [])) ≡ cells_bytes cs ++ cell_bytes c
+last-bytes : (cs : List Cell) (c : Cell) → cells_bytes (cs ++ (c ∷ [])) ≡ cells_bytes cs ++ cell_bytes c
 unfolding cells_bytes
 last-bytes [] c = append-nil (cell_bytes c)
 last-bytes (first ∷ cs) c =
@@ -83,10 +83,10 @@ last-bytes (first ∷ cs) c =
 
 module _ (version : ℕ) (s : Settings) where
   -- the header and so many cells, which are the front of a buffer while it is written
-  abbrev front : List Tally → List ℕ
+  abbrev front : List Cell → List ℕ
   front cs = header version s ++ cells_bytes cs
 
-  pub length-file : (cs : List Tally) → length (front cs) ≡ saved_length (length cs)
+  pub length-file : (cs : List Cell) → length (front cs) ≡ saved_length (length cs)
   length-file cs = omega (arith, length-append (header version s) (cells_bytes cs), length-header version s, length-cells-bytes cs)
 
   module _ (buffer : List ℕ) (count : ℕ) (long : length buffer ≡ saved_length count) where
@@ -97,7 +97,7 @@ module _ (version : ℕ) (s : Settings) where
         stored_bytes buffer 0 (header version s) (omega (arith, wide)) ∙ front-next buffer [] (header version s) (omega (arith, wide))
         ∙ ap (with_front buffer) (sym (append-nil (header version s)))
 
-    cell-next : (cs : List Tally) (c : Tally) → length cs < count → with_cell_bytes (with_front buffer (front cs)) (length cs) c ≡ with_front buffer (front (cs ++ (c ∷ [])))
+    cell-next : (cs : List Cell) (c : Cell) → length cs < count → with_cell_bytes (with_front buffer (front cs)) (length cs) c ≡ with_front buffer (front (cs ++ (c ∷ [])))
     cell-next cs c inside =
         let behind = length-file cs in
         let kept = length_front buffer (front cs) (omega (arith, behind)) in
@@ -107,7 +107,7 @@ module _ (version : ℕ) (s : Settings) where
         ∙ ap (with_front buffer) (append_assoc (header version s) (cells_bytes cs) (cell_bytes c) ∙ ap (λ bytes. header version s ++ bytes) (sym (last-bytes cs c)))
 
     -- the header and so many cells, stored in a buffer of their length, are the buffer
-    pub file-stored : (cs : List Tally) → length cs ≡ count → stored_from with_cell_bytes (with_bytes buffer 0 (header version s)) 0 cs ≡ header version s ++ cells_bytes cs
+    pub file-stored : (cs : List Cell) → length cs ≡ count → stored_from with_cell_bytes (with_bytes buffer 0 (header version s)) 0 cs ≡ header version s ++ cells_bytes cs
     file-stored cs all =
         ap (λ b. stored_from with_cell_bytes b 0 cs) header-first
         ∙ stored-behind with_cell_bytes (λ done. with_front buffer (front done)) count cell-next [] cs (omega arith)
@@ -116,21 +116,21 @@ module _ (version : ℕ) (s : Settings) where
 -- ---- tables made of a list
 
 -- behind the first cell stand the cells of the others
-cell-behind : (c : Tally) (cs : List Tally) (index : ℕ) → cell_at (tables_of (c ∷ cs)) (suc index) ≡ cell_at (tables_of cs) index
+cell-behind : (c : Cell) (cs : List Cell) (index : ℕ) → cell_at (tables_of (c ∷ cs)) (suc index) ≡ cell_at (tables_of cs) index
 unfolding rounds_of sets_of values_of
 cell-behind c cs index =
     let high : 2 * suc index ≡ suc (suc (2 * index)) = omega arith in
     let low : 2 * suc index + 1 ≡ suc (suc (2 * index + 1)) = omega arith in
     let values = c.value.high ∷ c.value.low ∷ values_of cs in
-    λ i. tally (the_round (get_or (rounds_of cs) index 0)) (get_or (sets_of cs) index 0) (the_value (get_or values (high i) 0) (get_or values (low i) 0))
+    λ i. cell (the_round (get_or (rounds_of cs) index 0)) (get_or (sets_of cs) index 0) (the_value (get_or values (high i) 0) (get_or values (low i) 0))
 
-cells-behind : (c : Tally) (cs : List Tally) (index count : ℕ) → cells_from (cell_at (tables_of (c ∷ cs))) (suc index) count ≡ cells_from (cell_at (tables_of cs)) index count
+cells-behind : (c : Cell) (cs : List Cell) (index count : ℕ) → cells_from (cell_at (tables_of (c ∷ cs))) (suc index) count ≡ cells_from (cell_at (tables_of cs)) index count
 unfolding cells_from
 cells-behind c cs index zero = refl
 cells-behind c cs index (suc count) = λ i. cell-behind c cs index i ∷ cells-behind c cs (suc index) count i
 
 -- the cells of the tables are the list
-pub cells-of-tables : (cs : List Tally) → first_cells (length cs) (tables_of cs) ≡ cs
+pub cells-of-tables : (cs : List Cell) → first_cells (length cs) (tables_of cs) ≡ cs
 unfolding cells_from rounds_of sets_of values_of
 cells-of-tables [] = refl
 cells-of-tables (c ∷ cs) = ap (λ others. c ∷ others) (cells-behind c cs 0 (length cs) ∙ cells-of-tables cs)
@@ -166,23 +166,23 @@ module _ (t : Tables) where
 
 -- ---- tables whose cells are all replaced
 
-last-round : (cs : List Tally) (c : Tally) → rounds_of (cs ++ (c ∷ [])) ≡ rounds_of cs ++ (c.round.0 ∷ [])
+last-round : (cs : List Cell) (c : Cell) → rounds_of (cs ++ (c ∷ [])) ≡ rounds_of cs ++ (c.round.0 ∷ [])
 unfolding rounds_of
 last-round [] c = refl
 last-round (first ∷ cs) c = ap (λ others. first.round.0 ∷ others) (last-round cs c)
 
-last_set : (cs : List Tally) (c : Tally) → sets_of (cs ++ (c ∷ [])) ≡ sets_of cs ++ (c.set ∷ [])
+last_set : (cs : List Cell) (c : Cell) → sets_of (cs ++ (c ∷ [])) ≡ sets_of cs ++ (c.set ∷ [])
 unfolding sets_of
 last_set [] c = refl
 last_set (first ∷ cs) c = ap (λ others. first.set ∷ others) (last_set cs c)
 
-last-value : (cs : List Tally) (c : Tally) → values_of (cs ++ (c ∷ [])) ≡ values_of cs ++ (c.value.high ∷ c.value.low ∷ [])
+last-value : (cs : List Cell) (c : Cell) → values_of (cs ++ (c ∷ [])) ≡ values_of cs ++ (c.value.high ∷ c.value.low ∷ [])
 unfolding values_of
 last-value [] c = refl
 last-value (first ∷ cs) c = ap (λ others. first.value.high ∷ first.value.low ∷ others) (last-value cs c)
 
 -- the tables with their first cells replaced by these
-abbrev replaced : Tables → List Tally → Tables
+abbrev replaced : Tables → List Cell → Tables
 replaced t cs = tables (with_front t.rounds (rounds_of cs)) (with_front t.sets (sets_of cs)) (with_front t.values (values_of cs))
 
 module _ (n : ℕ) (t : Tables) (sized : Sized n t) where
@@ -190,7 +190,7 @@ module _ (n : ℕ) (t : Tables) (sized : Sized n t) where
   unfolding rounds_of sets_of values_of
   replaced-none = refl
 
-  replaced-next : (cs : List Tally) (c : Tally) → length cs < n → with_cell (replaced t cs) (length cs) c ≡ replaced t (cs ++ (c ∷ []))
+  replaced-next : (cs : List Cell) (c : Cell) → length cs < n → with_cell (replaced t cs) (length cs) c ≡ replaced t (cs ++ (c ∷ []))
   replaced-next cs c inside =
       let rounds-done = length-rounds-of cs in
       let sets-done = length-sets-of cs in
@@ -201,7 +201,7 @@ module _ (n : ℕ) (t : Tables) (sized : Sized n t) where
       rw (last-round cs c, last_set cs c, last-value cs c, ← rounds-next, ← sets-next, ← values-next, rounds-done, sets-done, values-done, add-one)
 
   -- so many cells, stored in tables of their size, are the tables
-  pub tables-stored : (cs : List Tally) → length cs ≡ n → stored_from with_cell t 0 cs ≡ tables_of cs
+  pub tables-stored : (cs : List Cell) → length cs ≡ n → stored_from with_cell t 0 cs ≡ tables_of cs
   tables-stored cs all =
       ap (λ u. stored_from with_cell u 0 cs) replaced-none ∙ stored-behind with_cell (replaced t) n replaced-next [] cs (omega arith)
       ∙ (λ i.

@@ -17,9 +17,9 @@ use Rattle.basics.specs.Values.{the_value}
 use Rattle.basics.proofs.Ladder.{both_true, and-true}
 use Rattle.columns.specs.Walks.{cells_from}
 use Rattle.quorum.specs.declared.Settings.{Settings}
-use Rattle.tally.specs.declared.Tally.{Tally}
-use Rattle.tally.specs.Tally.{tally, fresh_tally}
-use Rattle.tally.proofs.Laws.{TallyFits}
+use Rattle.learner_cell.specs.declared.Cell.{Cell}
+use Rattle.learner_cell.specs.Cell.{cell, fresh_cell}
+use Rattle.learner_cell.proofs.Laws.{CellFits}
 use Rattle.learner_file.specs.File.{mark, header_length, cell_length, saved_length, header, marked, version_in, same_settings, cell_bytes, cell_in, cells_bytes, saved_from}
 use Rattle.learner_file.proofs.Laws.{length-cell}
 
@@ -79,7 +79,7 @@ header_back version s saved bytes holds marks versioned like =
 -- ---- one cell
 
 -- a cell that is written among bytes is read there
-pub cell-back : (front back : List ℕ) (c : Tally) → TallyFits c → cell_in (front ++ (cell_bytes c ++ back)) (length front) ≡ c
+pub cell-back : (front back : List ℕ) (c : Cell) → CellFits c → cell_in (front ++ (cell_bytes c ++ back)) (length front) ≡ c
 unfolding cell_in cell_bytes
 cell-back front back c fits =
     let round = to_bytes 4 c.round.0 in
@@ -87,7 +87,7 @@ cell-back front back c fits =
     let high = to_bytes 8 c.value.high in
     let low = to_bytes 8 c.value.low in
     λ i.
-    tally (the_round (number_in front ((c.set ∷ []) ++ high ++ low ++ back) 4 c.round.0 fits.round_fits i))
+    cell (the_round (number_in front ((c.set ∷ []) ++ high ++ low ++ back) 4 c.round.0 fits.round_fits i))
     (get_or-append-add front (voted ++ high ++ low ++ back) 4 0 i)
     (the_value (number_behind front voted (low ++ back) (length front + 5) 8 c.value.high refl fits.value-fits.high_fits i)
     (number_behind front (voted ++ high) back (length front + 13) 8 c.value.low refl fits.value-fits.low_fits i))
@@ -103,13 +103,13 @@ cell-bytes-back saved bytes at inside =
     ∙ ap (λ b. b ++ bytes_at saved (at + 13) 8) (sym (bytes_at-add saved at 5 8)) ∙ sym (bytes_at-add saved at 13 8)
 
 -- A fresh cell is written as ffffffff, 00 and 16 zero bytes.
-pub fresh-bytes : cell_bytes fresh_tally ≡ replicate 4 255 ++ replicate 17 0
+pub fresh-bytes : cell_bytes fresh_cell ≡ replicate 4 255 ++ replicate 17 0
 unfolding cell_bytes
 fresh-bytes = refl
 
 -- ---- all cells
 
-pub cells-back : (cell_at : ℕ → Tally) → ((index : ℕ) → TallyFits (cell_at index)) → (front : List ℕ) (index count : ℕ) → length front ≡ saved_length index
+pub cells-back : (cell_at : ℕ → Cell) → ((index : ℕ) → CellFits (cell_at index)) → (front : List ℕ) (index count : ℕ) → length front ≡ saved_length index
     → saved_from (front ++ cells_bytes (cells_from cell_at index count)) index count ≡ cells_from cell_at index count
 unfolding cells_bytes cells_from
 cells-back cell_at fits front index zero behind = refl

@@ -13,7 +13,7 @@ use Rattle.numbers.proofs.Bytes.{stored-within, sets-append}
 use Rattle.columns.specs.Walks.{cells_from}
 use Rattle.columns.proofs.Walks.{cells_left, cells-next, cells-end, cells-all}
 use Rattle.quorum.specs.Settings.{settings}
-use Rattle.tally.specs.declared.Tally.{Tally}
+use Rattle.learner_cell.specs.declared.Cell.{Cell}
 use Rattle.learner_file.specs.File.{mark, header_length, cell_length, saved_length, header, cell_bytes, with_bytes, with_cell_bytes, stored_from}
 use Rattle.learner_file.proofs.Laws.{length-header, length-cell, stored_bytes}
 
@@ -53,7 +53,7 @@ module _ (version acceptors instances : ℕ) (buffer : List ℕ) where
 
 -- ---- one cell
 
-module _ (c : Tally) (buffer : List ℕ) (index at : ℕ) (at-so : at ≡ saved_length index) where
+module _ (c : Cell) (buffer : List ℕ) (index at : ℕ) (at-so : at ≡ saved_length index) where
   pub cell-not-put : length buffer < at + cell_length → buffer ≡ with_cell_bytes buffer index c
   cell-not-put short = not_written buffer (saved_length index) (cell_bytes c) (omega (arith, length-cell c))
 
@@ -76,12 +76,12 @@ module _ (c : Tally) (buffer : List ℕ) (index at : ℕ) (at-so : at ≡ saved_
 
 -- ---- the walks that store
 
-module _ {Holder : Type 0} (store : Holder → ℕ → Tally → Holder) (cell_at : ℕ → Tally) (held : Holder) where
+module _ {Holder : Type 0} (store : Holder → ℕ → Cell → Holder) (cell_at : ℕ → Cell) (held : Holder) where
   pub store-first : (count : ℕ) → stored_from store held 0 (cells_from cell_at 0 count) ≡ stored_from store held 0 (cells_left cell_at 0 count)
   store-first count = ap (stored_from store held 0) (cells-all cell_at count)
 
   module _ (index count : ℕ) where
-    pub store-next : index < count → (c : Tally) → c ≡ cell_at index → (next : Holder) → next ≡ store held index c
+    pub store-next : index < count → (c : Cell) → c ≡ cell_at index → (next : Holder) → next ≡ store held index c
         → stored_from store held index (cells_left cell_at index count) ≡ stored_from store next (index + 1) (cells_left cell_at (index + 1) count)
     unfolding stored_from
     store-next inside c c-so next next-so =

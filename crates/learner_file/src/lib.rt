@@ -2,13 +2,13 @@
 // Past its end a file reads as 0, and what does not lie within a buffer is not written.
 ghost use Rattle.std.specs.Prelude.{◌≡◌};
 ghost use Rattle.quorum.specs.Settings.{settings};
-ghost use Rattle.tallies.specs.Tables.{tables, with_cell, first_cells, all_possible};
+ghost use Rattle.learner_tables.specs.Tables.{tables, with_cell, first_cells, all_possible};
 ghost use Rattle.learner_file.specs.File.{saved_length, header, marked, version_in, same_settings};
 ghost use Rattle.learner_file.specs.File.{saved_cell, saved_from, with_bytes, with_cell_bytes, stored_from};
 
 use basics::{Round, Value};
+use learner_cell::Cell;
 use quorum::Settings;
-use tally::Tally;
 
 pub const HEADER_LENGTH: usize = 8;
 
@@ -61,7 +61,7 @@ pub fn same_settings(settings: Settings, saved: &[u8]) -> bool
 
 // ---- one cell
 
-fn put_cell(buffer: &mut [u8], index: u32, cell: Tally)
+fn put_cell(buffer: &mut [u8], index: u32, cell: Cell)
     ensures { buffer.new ≡ with_cell_bytes buffer.old index cell }
 {
     let at = saved_length(index);
@@ -74,11 +74,11 @@ fn put_cell(buffer: &mut [u8], index: u32, cell: Tally)
     numbers::write_u64(buffer, at + 13, cell.value.low);
 }
 
-fn cell_in(saved: &[u8], index: u32) -> Tally
+fn cell_in(saved: &[u8], index: u32) -> Cell
     ensures { result ≡ saved_cell saved.now index }
 {
     let at = saved_length(index);
-    Tally {
+    Cell {
         round: Round(numbers::read_u32(saved, at)),
         set: columns::byte_at(saved, at + 4),
         value: Value {
@@ -96,7 +96,7 @@ pub fn put_cells(buffer: &mut [u8], count: u32, rounds: &[u32], sets: &[u8], val
         buffer.new ≡ stored_from with_cell_bytes buffer.old 0 (first_cells count before) }
 {
     for index in 0..count {
-        let cell = tallies::cell_at(rounds, sets, values, index as usize);
+        let cell = learner_tables::cell_at(rounds, sets, values, index as usize);
         put_cell(buffer, index, cell);
     }
 }
@@ -107,7 +107,7 @@ pub fn saved_possible(acceptors: u32, count: u32, saved: &[u8]) -> bool
 {
     for index in 0..count {
         let cell = cell_in(saved, index);
-        if !tally::is_possible(acceptors, cell) {
+        if !learner_cell::is_possible(acceptors, cell) {
             return false;
         }
     }
@@ -128,6 +128,6 @@ pub fn store_saved(
 {
     for index in 0..count {
         let cell = cell_in(saved, index);
-        tallies::store_cell(rounds, sets, values, index as usize, cell);
+        learner_tables::store_cell(rounds, sets, values, index as usize, cell);
     }
 }

@@ -31,7 +31,7 @@ port-promises s =
     let M = s.acceptors in
     frame-promises (learner s) (λ m. place-elim NotBy1 s.instances m refl refl)
     (λ c m. rule-elim SaysSo M c m
-    (λ a _ r v _. counting-elim SaysSo M c a r v refl refl refl refl refl refl (λ _. held-or-decided M _)) refl)
+    (λ a _ r v _. counting-elim SaysSo M c a r v refl refl refl refl refl refl (λ _ _ _ _ _. held-or-decided M _) (λ _ _ _ _ _ _. held-or-decided M _)) refl)
     (8 ∷ 9 ∷ 17 ∷ 14 ∷ 10 ∷ 13 ∷ 15 ∷ []) verdicts (learner-numbers s)
 
 pub frame-stays : (s : Settings) → FrameStays s

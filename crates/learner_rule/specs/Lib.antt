@@ -1,3 +1,1 @@
 pub mod Rule
-pub mod Late
-pub mod Promises

@@ -34,16 +34,20 @@ pub fn count_vote(acceptors: u32, cell: Cell, sender: u16, round: Round, value: 
     if learner_cell::is_decided(acceptors, cell) {
         return Ruled::Refused(14);
     }
-    if learner_cell::all_above(round, cell) {
+    if !basics::at_most(cell.round, round) {
         return Ruled::Refused(10);
     }
-    let held = learner_cell::entry_of(round, cell);
-    if tally::has_vote(held) & !basics::same_value(value, held.value) {
+    if !basics::same_round(round, cell.round) {
+        return hold_or_decide(acceptors, learner_cell::with_voter(0, sender, round, value));
+    }
+    if !basics::same_value(value, cell.value) {
         return Ruled::Refused(13);
     }
-    if quorum::has_member(held.set, sender) {
+    if quorum::has_member(cell.set, sender) {
         return Ruled::Refused(15);
     }
-    let new = tally::with_voter(held.set, sender, round, value);
-    hold_or_decide(acceptors, learner_cell::with_entry(cell, new))
+    hold_or_decide(
+        acceptors,
+        learner_cell::with_voter(cell.set, sender, round, value),
+    )
 }

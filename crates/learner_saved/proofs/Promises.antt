@@ -17,7 +17,7 @@ use Rattle.player.specs.Promises.{OneOf, first, NumbersAre, RefusalKeepsAll, Fit
 use Rattle.player.specs.Step.{unchanged}
 use Rattle.player.proofs.Numbers.{one_of}
 use Rattle.quorum.specs.declared.Settings.{Settings}
-use Rattle.tallies.specs.Tables.{Tables, cell_at, cells, all_possible, Sized, Fitting}
+use Rattle.learner_tables.specs.Tables.{Tables, cell_at, cells, all_possible, Sized, Fitting}
 use Rattle.learner_file.specs.File.{header_length, saved_length, version_in, tables_of}
 use Rattle.columns.proofs.Walks.{length-cells}
 use Rattle.learner_file.proofs.Laws.{length-file, saved-sized, cells-saved, saved-fitting}

@@ -13,9 +13,9 @@ use Rattle.basics.specs.declared.Verdict.TheVariants.{Done}
 use Rattle.basics.specs.Outcome.{outcome, lent}
 use Rattle.basics.specs.Verdict.{verdict_number}
 use Rattle.quorum.specs.declared.Settings.{Settings}
-use Rattle.tally.specs.Tally.{fresh_tally}
-use Rattle.tallies.specs.Tables.{Tables, cell_at, cells, all_possible, is_allowed, tables_allowed, Fitting}
-use Rattle.tallies.proofs.Laws.{allowed-tables, fitting-at}
+use Rattle.learner_cell.specs.Cell.{fresh_cell}
+use Rattle.learner_tables.specs.Tables.{Tables, cell_at, cells, all_possible, is_allowed, learner_allowed, Fitting}
+use Rattle.learner_tables.proofs.Laws.{allowed-tables, fitting-at}
 use Rattle.learner_file.specs.File.{header_length, cell_length, saved_length, header, cell_in, saved_cell, cells_bytes, tables_of}
 use Rattle.columns.proofs.Walks.{cell-of}
 use Rattle.learner_file.proofs.Laws.{length-header, tables-of-cells, saved-sized, cells-saved}
@@ -32,8 +32,8 @@ saved-cells-back s t fits = cells-back (cell_at t) (λ index. fitting-at t index
 pub saved-cell-stands : SavedCellStands
 saved-cell-stands s t fits index inside =
     let place : 0 + index ≡ index = omega arith in
-    ap (saved_cell (saved_table s t)) (sym place) ∙ sym (cell-of (saved_cell (saved_table s t)) fresh_tally 0 s.instances index inside)
-    ∙ ap (λ cs. get_or cs index fresh_tally) (saved-cells-back s t fits) ∙ cell-of (cell_at t) fresh_tally 0 s.instances index inside ∙ ap (cell_at t) place
+    ap (saved_cell (saved_table s t)) (sym place) ∙ sym (cell-of (saved_cell (saved_table s t)) fresh_cell 0 s.instances index inside)
+    ∙ ap (λ cs. get_or cs index fresh_cell) (saved-cells-back s t fits) ∙ cell-of (cell_at t) fresh_cell 0 s.instances index inside ∙ ap (cell_at t) place
 
 pub set-bits : SetBits
 unfolding cell_in
@@ -42,7 +42,7 @@ set-bits s t fits index acceptor inside =
     ((λ member. rw same at member), (λ member. rw (sym same) at member))
 
 -- a saved table passes the tests of reading, whatever stands in the lent one
-saved-readable : (s : Settings) (t other : Tables) (buffer : List ℕ) → Fitting t → tables_allowed s other ≡ true → Savable s buffer t → Readable s (saved_table s t) other
+saved-readable : (s : Settings) (t other : Tables) (buffer : List ℕ) → Fitting t → learner_allowed s other ≡ true → Savable s buffer t → Readable s (saved_table s t) other
 unfolding saved_table
 saved-readable s t other buffer fits fine tests =
     let few = (allowed-tables s t tests.fine).few in

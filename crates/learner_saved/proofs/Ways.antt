@@ -13,18 +13,18 @@ use Rattle.basics.specs.Outcome.{outcome, lent}
 use Rattle.basics.specs.Verdict.{verdict_number}
 use Rattle.player.specs.Step.{unchanged}
 use Rattle.quorum.specs.declared.Settings.{Settings}
-use Rattle.tallies.specs.Tables.{Tables, cell_at, with_cell, cells, all_possible, tables_allowed}
-use Rattle.tallies.proofs.Laws.{Allowed, allowed-tables}
+use Rattle.learner_tables.specs.Tables.{Tables, cell_at, with_cell, cells, all_possible, learner_allowed}
+use Rattle.learner_tables.proofs.Laws.{Allowed, allowed-tables}
 use Rattle.learner_file.specs.File.{header_length, saved_length, header, marked, version_in, same_settings, saved_cell, cells_bytes, with_bytes, with_cell_bytes, stored_from, tables_of}
 use Rattle.columns.proofs.Walks.{length-cells}
 use Rattle.learner_file.proofs.Laws.{file-stored, tables-stored}
 use Rattle.learner_saved.specs.Saved.{version, saved_table, saved_cells, save, read_saved}
 
 -- what settings and tables bring that the code finds allowed
-pub brings : (s : Settings) (t : Tables) (fine : Bool) → fine ≡ tables_allowed s t → not fine ≡ false → Allowed s t
+pub brings : (s : Settings) (t : Tables) (fine : Bool) → fine ≡ learner_allowed s t → not fine ≡ false → Allowed s t
 brings s t fine fine-so passes = allowed-tables s t (sym fine-so ∙ not-false fine passes)
 
-module _ (s : Settings) (bytes : List ℕ) (t : Tables) (fine : Bool) (fine-so : fine ≡ tables_allowed s t) where
+module _ (s : Settings) (bytes : List ℕ) (t : Tables) (fine : Bool) (fine-so : fine ≡ learner_allowed s t) where
   pub save-7 : not fine ≡ true → unchanged bytes t 7 ≡ save s bytes t
   unfolding save need◌or◌then◌
   save-7 fails = rw (← fine-so, not-true fine fails)
@@ -34,7 +34,7 @@ module _ (s : Settings) (bytes : List ℕ) (t : Tables) (fine : Bool) (fine-so :
   read-7 fails = rw (← fine-so, not-true fine fails)
 
   module _ (passes : not fine ≡ false) where
-    fine-is : tables_allowed s t ≡ true
+    fine-is : learner_allowed s t ≡ true
     fine-is = sym fine-so ∙ not-false fine passes
 
     -- ---- saving

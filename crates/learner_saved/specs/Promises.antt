@@ -8,7 +8,7 @@ use Rattle.basics.specs.Verdict.{verdict_number}
 use Rattle.player.specs.Promises.{NumbersAre, RefusalKeepsAll, FittingStays}
 use Rattle.quorum.specs.declared.Settings.{Settings}
 use Rattle.quorum.specs.Quorum.{Member}
-use Rattle.tallies.specs.Tables.{Tables, cell_at, cells, all_possible, tables_allowed, Sized, Fitting}
+use Rattle.learner_tables.specs.Tables.{Tables, cell_at, cells, all_possible, learner_allowed, Sized, Fitting}
 use Rattle.learner_file.specs.File.{header_length, saved_length, marked, version_in, same_settings, saved_cell, tables_of}
 use Rattle.learner_saved.specs.Saved.{version, saved_table, saved_cells, save, read_saved}
 
@@ -16,7 +16,7 @@ use Rattle.learner_saved.specs.Saved.{version, saved_table, saved_cells, save, r
 
 -- Saving and then reading, into any lent table of the same sizes, gives the table.
 abbrev pub SaveThenRead : Type 0
-SaveThenRead = (s : Settings) (buffer : List ℕ) (t other : Tables) → Fitting t → tables_allowed s other ≡ true → (save s buffer t).answer ≡ verdict_number Done
+SaveThenRead = (s : Settings) (buffer : List ℕ) (t other : Tables) → Fitting t → learner_allowed s other ≡ true → (save s buffer t).answer ≡ verdict_number Done
     → read_saved s (save s buffer t).left.packet other ≡ outcome (verdict_number Done) (lent (save s buffer t).left.packet t)
 
 -- Reading and then saving, to any buffer of that length, gives the bytes.
@@ -51,13 +51,13 @@ read_refusals = 7 ∷ 1 ∷ 2 ∷ 3 ∷ 17 ∷ []
 
 -- The tests that saving makes,
 pub record Savable (s : Settings) (buffer : List ℕ) (t : Tables) : Type 0 where
-  pub fine : tables_allowed s t ≡ true
+  pub fine : learner_allowed s t ≡ true
   pub whole : length buffer ≡ saved_length s.instances
   pub possible : all_possible s.acceptors (cells s t) ≡ true
 
 -- and those that reading makes.
 pub record Readable (s : Settings) (saved : List ℕ) (t : Tables) : Type 0 where
-  pub fine : tables_allowed s t ≡ true
+  pub fine : learner_allowed s t ≡ true
   pub holds : header_length ≤ length saved
   pub mark : marked saved ≡ true
   pub versioned : version_in saved ≡ version

@@ -2,7 +2,7 @@
 ghost use Rattle.std.specs.Prelude.{◌≡◌};
 ghost use Rattle.basics.specs.Outcome.{outcome, lent};
 ghost use Rattle.quorum.specs.Settings.{settings};
-ghost use Rattle.tallies.specs.Tables.{tables};
+ghost use Rattle.learner_tables.specs.Tables.{tables};
 ghost use Rattle.learner_saved.specs.Saved.{save, read_saved};
 
 use basics::Verdict;
@@ -26,13 +26,13 @@ pub extern "C" fn myrthakel_learner_save(
         acceptors,
         instances,
     };
-    if !tallies::is_allowed(settings, rounds.len(), sets.len(), values.len()) {
+    if !learner_tables::is_allowed(settings, rounds.len(), sets.len(), values.len()) {
         return 7;
     }
     if buffer.len() != learner_file::saved_length(instances) {
         return 1;
     }
-    if !tallies::all_possible(acceptors, instances, rounds, sets, values) {
+    if !learner_tables::all_possible(acceptors, instances, rounds, sets, values) {
         return 17;
     }
     learner_file::put_header(buffer, VERSION, acceptors as u8, instances as u16);
@@ -58,7 +58,7 @@ pub extern "C" fn myrthakel_learner_read_saved(
         acceptors,
         instances,
     };
-    if !tallies::is_allowed(settings, rounds.len(), sets.len(), values.len()) {
+    if !learner_tables::is_allowed(settings, rounds.len(), sets.len(), values.len()) {
         return 7;
     }
     if saved.len() < learner_file::HEADER_LENGTH {

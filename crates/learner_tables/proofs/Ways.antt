@@ -26,6 +26,6 @@ module _ (s : Settings) (t : Tables) (fine : Bool) (fine-so : fine ≡ learner_a
       → outcome answer (tables rounds sets values) ≡ learner_fresh s t
   unfolding learner_fresh
   filled passed answer rounds sets values answer-so rounds-so sets-so values-so =
-      let sized = (allowed-tables s t (sym fine-so ∙ not-false fine passed)).sized.of_entries in
+      let sized = (allowed-tables s t (sym fine-so ∙ not-false fine passed)).sized in
       fresh-done t (fresh_tables s.instances) fine-so passed answer-so
       (rw (rounds-so, sets-so, values-so, sized.of_rounds, sized.of_sets, sized.of_values))

@@ -2,7 +2,6 @@
 -- names a set's members is as long as the count. The list is built acceptor by acceptor, and the set voter by voter.
 -- Assumes nothing.
 use mathlib.Core.Path.{◌≡◌, refl, sym, ap, ◌∙◌, subst}
-use mathlib.Core.Bool.{true}
 use mathlib.Core.List.{List, [], ◌∷◌}
 use mathlib.Core.Logic.Iff
 use mathlib.Core.Logic.{◌↔◌}
@@ -14,7 +13,7 @@ use lib.Count.{ones}
 use lib.ListN.{length}
 use Rattle.quorum.specs.Quorum.{majority, bit, Member, within, AtLeast}
 use Rattle.quorum.specs.Voters.{Mem, newest, older, Distinct, Names}
-use Rattle.quorum.specs.Promises.{Listed, SetIsListed, ListHasSet, ExactList, HalfIff}
+use Rattle.quorum.specs.Promises.{SetIsListed, ListHasSet, ExactList, HalfIff}
 use Rattle.quorum.proofs.Bits.{bit-below-2, ones_below, Added, added}
 use Rattle.quorum.proofs.Laws.{majority-iff, within-iff, reaches-iff, member_below, same-members, empty-within, empty-bit, empty-size}
 
@@ -96,19 +95,6 @@ listed acceptors set inside =
         count = list.1.count ∙ ap ones (mod-eq_of_lt small);
       };
     }
-
--- A set within M that is not empty has a member.
-pub some-member : (acceptors set : ℕ) → within acceptors set ≡ true → (set ≡ 0 → ⊥) → (voter : ℕ) × Member voter set
-some-member acceptors set inside some = go list.voters list.names.members
-  where
-    list : Listed acceptors set
-    list = listed acceptors set inside
-
-    go : (voters : List ℕ) → ((voter : ℕ) → Mem voter voters ↔ Member voter set) → (voter : ℕ) × Member voter set
-    go (voter ∷ others) members = (voter, (members voter).0 (newest refl))
-    go [] members =
-        absurd (some (same-members acceptors set 0 inside (empty-within acceptors)
-        (λ voter. (λ present. elim ((members voter).1 present) [ ], λ present. absurd (omega (arith, empty-bit voter, present))))))
 
 -- ---- a list's set
 

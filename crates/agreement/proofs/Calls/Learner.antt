@@ -24,7 +24,6 @@ use Rattle.learner_cell.specs.declared.Cell.{Cell}
 use Rattle.learner_cell.specs.Cell.{is_decided}
 use Rattle.learner_rule.specs.Rule.{hold_or_decide}
 use Rattle.learner_rule.proofs.Laws.{counting-elim}
-use Rattle.learner_rule.proofs.Sent.{counted-sent}
 use Rattle.learner_tables.specs.Tables.{Tables, cell_at, with_cell, Sized}
 use Rattle.learner_tables.proofs.Laws.{cell-there, cell_apart, allowed-tables, index-within}
 use Rattle.learner.specs.Learner.{place, learner_step}
@@ -33,9 +32,14 @@ use Rattle.learner.proofs.Laws.{rule-elim, place-elim, vote-placed}
 use Rattle.agreement.specs.Run.{learner, sent, Boxes, put, after_learner, Handed}
 use Rattle.agreement.proofs.Families.{put_all}
 use Rattle.agreement.proofs.Slot.{Slot, vote, LearnerSound}
-use Rattle.agreement.proofs.Slot.Learner.{listening, listens}
+use Rattle.agreement.proofs.Slot.Learner.{listening, listens, joins}
 use Rattle.agreement.proofs.Representing.{Told, PlacedAt, Represents, met, met-vote, told_same, wants-moved}
 use Rattle.agreement.proofs.Representing.{cells-moved, acceptors-same, backups-same, all_sound, still_placed, unopened-still, step-acts}
+
+same_value : (v u : Value) → same_value v u ≡ true → v ≡ u
+same_value v u e =
+    let halves = both_true (eqb v.high u.high) (eqb v.low u.low) e in
+    λ i. record { high = eqb-true v.high u.high halves.0 i; low = eqb-true v.low u.low halves.1 i }
 
 module _ {s : Settings} {w : Boxes} (h : Represents s w) (which : ℕ) where
   abbrev t : Tables
@@ -55,7 +59,7 @@ module _ {s : Settings} {w : Boxes} (h : Represents s w) (which : ℕ) where
   }
 
   -- a sound cell is stored, whether it holds or decides
-  stores : (p : List ℕ) (j index : ℕ) (c : Cell) → PlacedAt s.instances j index → Sized s.instances t → LearnerSound s.acceptors (h.slots j).votes c
+  stores : (p : List ℕ) (j index : ℕ) (c : Cell) → PlacedAt s.instances j index → Sized s.instances t → LearnerSound (h.slots j).votes c
       → Represents s (after_learner w which (ruled p t (with_cell t index) (hold_or_decide s.acceptors c)))
   unfolding hold_or_decide ruled says_send if◌then◌else◌
   stores p j index c at sized sound =
@@ -105,7 +109,9 @@ module _ {s : Settings} {w : Boxes} (h : Represents s w) (which : ℕ) where
       let new : Mem (vote a r v) votes = met-vote (met h handed (reads ∙ ap Read e)) in
       counting-elim (λ r. Represents s (after_learner w which (ruled p t (with_cell t index) r))) s.acceptors c a r v
       (refuses p 9 refl) (refuses p 17 refl) (refuses p 14 refl) (refuses p 10 refl) (refuses p 13 refl) (refuses p 15 refl)
-      (λ counted.
-      let heard = subst (LearnerSound s.acceptors votes) (sym (h.learners which i.0 index at)) ((h.sound i.0).learners which) in
-      stores p i.0 index _ at sized (counted-sent s.acceptors votes c (vote a r v) heard new counted)))
+      (λ _ _ _ _ _. stores p i.0 index _ at sized (joins votes 0 a r v new (λ b m. absurd (omega (arith, empty-bit b, m)))))
+      (λ _ _ _ current agrees _. stores p i.0 index _ at sized (joins votes c.set a r v new (λ b m.
+      let heard = subst (LearnerSound votes) (sym (h.learners which i.0 index at)) ((h.sound i.0).learners which) b m in
+      let same-round : c.round ≡ r = sym (λ j. the_round (eqb-true r.0 c.round.0 current j)) in
+      subst (λ x. Mem (vote b r x) votes) (sym (same_value v c.value agrees)) (subst (λ x. Mem (vote b x c.value) votes) same-round heard)))))
       (refuses p 6 refl))

@@ -20,8 +20,8 @@ abbrev pub listening : Slot → (l : ℕ) → Cell → Slot
 listening s l t =
     record { acceptor = s.acceptor; backup = s.backup; learner = put s.learner l t; promises = s.promises; proposes = s.proposes; votes = s.votes }
 
-pub listens : {M : ℕ} {s : Slot} → Sound M s → (l : ℕ) (t : Cell) → LearnerSound M s.votes t → Sound M (listening s l t)
-listens {M} {s} sound l t cell = record {
+pub listens : {M : ℕ} {s : Slot} → Sound M s → (l : ℕ) (t : Cell) → LearnerSound s.votes t → Sound M (listening s l t)
+listens {s = s} sound l t cell = record {
   vote-proposed = sound.vote-proposed;
   vote-known = sound.vote-known;
   acceptors = sound.acceptors;
@@ -33,5 +33,14 @@ listens {M} {s} sound l t cell = record {
   propose-once = sound.propose-once;
   propose-safe = sound.propose-safe;
   backups = sound.backups;
-  learners = put_all (λ _ d. LearnerSound M s.votes d) cell sound.learners;
+  learners = put_all (λ _ d. LearnerSound s.votes d) cell sound.learners;
 }
+
+-- A set of voters with one more is sound, if each of them sent that vote.
+pub joins : (votes : List Vote) (set a : ℕ) (r : Round) (v : Value) → Mem (vote a r v) votes → ((b : ℕ) → Member b set → Mem (vote b r v) votes)
+    → LearnerSound votes (with_voter set a r v)
+joins votes set a r v new before b m = each (with-member-cases set a b m)
+  where
+    each : (b ≡ a) ⊎ Member b set → Mem (vote b r v) votes
+    each (inl e) = rw e new
+    each (inr h) = before b h

@@ -15,7 +15,7 @@ number-of-requires : tie.Need-number-of-requires
 number-of-requires c κs = ten-at-most c.before.before.before.args.text.now c.before.if1.false
 
 returns-2 : tie.Need-returns-2
-returns-2 c = right-length c.before.before.before.before.args.text.now c.before.before.if1.false _ _ c.before.are-digits.ensures c.number-of.ensures
+returns-2 c = right-length c.before.before.before.before.args.text.now c.before.before.if1.false _ _ c.before.are-digits.ensures c.number_of_lem.ensures
 
 pub is-decimal-spec : {M : Type 1} → statement M
 is-decimal-spec = tie.close (tie.spec returns are-digits-requires number-of-requires returns-2)

@@ -20,7 +20,7 @@ number-of-requires c κs =
 cast-t10 : tie.Need-overflow-cast-t10
 cast-t10 c =
     let a = c.before.before.before.before.before.before.before in
-    omega (arith, (decimal-brings a.args.instance.now a.requires.0).1, (decimal-brings a.args.floor.now a.requires.1.0).1, c.number-of.ensures)
+    omega (arith, (decimal-brings a.args.instance.now a.requires.0).1, (decimal-brings a.args.floor.now a.requires.1.0).1, c.number_of_lem.ensures)
 
 number-of-requires-2 : tie.Need-number-of-requires-2
 number-of-requires-2 c κs =
@@ -48,7 +48,7 @@ returns : tie.Need-returns
 returns c =
     let read = c.before.before in
     let counted = read.before.before in
-    rw (c.read-u642.ensures, read.read_u64.ensures, counted.number-of2.ensures, counted.before.number-of.ensures, counted.before.before.before.put-bytes.ensures)
+    rw (c.read-u642.ensures, read.read_u64.ensures, counted.number-of2.ensures, counted.before.number_of_lem.ensures, counted.before.before.before.put-bytes.ensures)
 
 pub started-spec : {M : Type 1} → statement M
 started-spec =

@@ -1,23 +1,24 @@
--- `learner_cell::is_possible` meets its contract: each test is what its call ensures.
+-- `learner_cell::is_possible` meets its contract: a fresh cell is possible, and any other exactly if it is heard.
 -- Assumes nothing.
 use Rattle.learner_cell.specs.Cell.{possible}
+use mathlib.Core.Path.{sym, ◌∙◌}
 use borrow.Author.Rules.{rules}
 use Rattle.learner_cell.proofs.is_possible.Statement.{statement}
 use Rattle.learner_cell.proofs.is_possible.Tie as tie
 
-is-falling-requires : tie.Need-is-falling-requires
-is-falling-requires c κs = search rules
+is-fresh-requires : tie.Need-is-fresh-requires
+is-fresh-requires c κs = search rules
 
-all-possible-requires : tie.Need-all-possible-requires
-all-possible-requires c κs = search rules
-
-one-majority-requires : tie.Need-one-majority-requires
-one-majority-requires c κs = search rules
+is-heard-requires : tie.Need-is-heard-requires
+is-heard-requires c κs = search rules
 
 returns : tie.Need-returns
 unfolding possible
-returns c = rw (c.before.before.is-falling.ensures, c.before.all_possible.ensures, c.one-majority.ensures)
+returns c = c.if1.true ∙ rw (sym c.before.is-fresh.ensures ∙ c.if1.true)
+
+returns-2 : tie.Need-returns-2
+unfolding possible
+returns-2 c = rw (c.is-heard.ensures, sym c.before.before.is-fresh.ensures ∙ c.before.if1.false)
 
 pub is-possible-spec : {M : Type 1} → statement M
-is-possible-spec =
-    tie.close (tie.spec is-falling-requires all-possible-requires one-majority-requires returns)
+is-possible-spec = tie.close (tie.spec is-fresh-requires is-heard-requires returns returns-2)

@@ -1,6 +1,6 @@
 -- `learner_delivery::write_delivered` meets its contract. The invariant: the values of the cells before stand in the buffer, and the list goes on with those left.
 -- Assumes nothing.
-use Prim.Native.Nat.{◌+◌, ◌-◌, ◌≤◌, ◌<◌}
+use Prim.Native.Nat.{◌≤◌, ◌-◌}
 use mathlib.Core.Path.{◌≡◌, refl, ap, ◌∙◌}
 use native.Mathlib.Omega.{arith}
 use lib.ListN.{length}
@@ -62,10 +62,7 @@ write-u64-requires-2 : tie.Need-write-u64-requires-2 invariant-loop decreases-lo
 write-u64-requires-2 c κs = search rules
 
 add-count : tie.Need-overflow-add-count invariant-loop decreases-loop
-add-count c =
-    let turn = c.before.before.before.before.before.before.before.before.before.before.before.before in
-    let fits : turn.before.loop.count + 1 < 4294967296 = omega (arith, turn.loop-test.true) in
-    record { fits = fits }
+add-count c = search rules
 
 loop-less : tie.Need-loop-smaller invariant-loop decreases-loop
 loop-less c = omega arith

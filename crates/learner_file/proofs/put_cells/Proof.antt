@@ -6,7 +6,7 @@ use native.Mathlib.Omega.{arith}
 use lib.ListN.{length}
 use borrow.Author.Rules.{rules}
 use Rattle.columns.proofs.Walks.{cells_left}
-use Rattle.tallies.specs.Tables.{tables, cell_at, first_cells}
+use Rattle.learner_tables.specs.Tables.{tables, cell_at, first_cells}
 use Rattle.learner_file.specs.File.{with_cell_bytes, stored_from}
 use Rattle.learner_file.proofs.Ways.{store-first, store-next, store-ends}
 use Rattle.learner_file.proofs.put_cells.Statement.{statement}

@@ -5,8 +5,8 @@ use mathlib.Core.Path.{◌≡◌, sym, ap, ◌∙◌}
 use native.Mathlib.Omega.{arith}
 use borrow.Author.Rules.{rules}
 use Rattle.columns.proofs.Walks.{cells_left, cells-all, every-next, every-stops, every-ends}
-use Rattle.tally.specs.Tally.{possible}
-use Rattle.tallies.specs.Tables.{all_possible}
+use Rattle.learner_cell.specs.Cell.{possible}
+use Rattle.learner_tables.specs.Tables.{all_possible}
 use Rattle.learner_file.specs.File.{saved_cell, saved_from}
 use Rattle.learner_file.proofs.saved_possible.Statement.{statement}
 use Rattle.learner_file.proofs.saved_possible.Tie as tie

@@ -6,7 +6,7 @@ use native.Mathlib.Omega.{arith}
 use lib.ListN.{length}
 use borrow.Author.Rules.{rules}
 use Rattle.columns.proofs.Walks.{cells_left}
-use Rattle.tallies.specs.Tables.{tables, with_cell}
+use Rattle.learner_tables.specs.Tables.{tables, with_cell}
 use Rattle.learner_file.specs.File.{saved_cell, saved_from, stored_from}
 use Rattle.learner_file.proofs.Ways.{store-first, store-next, store-ends}
 use Rattle.learner_file.proofs.store_saved.Statement.{statement}

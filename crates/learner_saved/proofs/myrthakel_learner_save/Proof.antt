@@ -2,7 +2,7 @@
 -- Assumes nothing.
 use native.Mathlib.Omega.{arith}
 use Rattle.quorum.specs.Settings.{settings}
-use Rattle.tallies.specs.Tables.{tables}
+use Rattle.learner_tables.specs.Tables.{tables}
 use Rattle.learner_saved.proofs.Ways.{brings, save-7, save-1, save-17, saves}
 use borrow.Author.Rules.{rules}
 use Rattle.learner_saved.proofs.myrthakel_learner_save.Statement.{statement}

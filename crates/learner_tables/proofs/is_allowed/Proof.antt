@@ -8,9 +8,6 @@ use Rattle.learner_tables.proofs.is_allowed.Tie as tie
 cast-count : tie.Need-overflow-cast-count
 cast-count c = search rules
 
-mul-count : tie.Need-overflow-mul-count
-mul-count c = search rules
-
 settings-allowed-requires : tie.Need-settings-allowed-requires
 settings-allowed-requires c κs = search rules
 
@@ -22,4 +19,4 @@ unfolding is_allowed
 returns c = rw c.settings-allowed.ensures
 
 pub is-allowed-spec : {M : Type 1} → statement M
-is-allowed-spec = tie.close (tie.spec cast-count mul-count settings-allowed-requires mul-result returns)
+is-allowed-spec = tie.close (tie.spec cast-count settings-allowed-requires mul-result returns)

@@ -1,33 +1,17 @@
--- `learner_tables::store_cell` meets its contract: the four entries are stored where they stand, or all of them past the end.
+-- `learner_tables::store_cell` meets its contract: each table is what its column's function leaves.
 -- Assumes nothing.
-use Rattle.learner_tables.proofs.Places.{lent-short, cell-stored}
 use borrow.Author.Rules.{rules}
 use Rattle.learner_tables.proofs.store_cell.Statement.{statement}
 use Rattle.learner_tables.proofs.store_cell.Tie as tie
 
-first-place-requires : tie.Need-first-place-requires
-first-place-requires c κs = search rules
+put-round-requires : tie.Need-put-round-requires
+put-round-requires c κs = search rules
 
-store-cell-requires : tie.Need-store-cell-requires
-store-cell-requires c κs = search rules
+put-byte-requires : tie.Need-put-byte-requires
+put-byte-requires c κs = search rules
 
-add-store-cell : tie.Need-overflow-add-store-cell
-add-store-cell c = search rules
-
-store-cell-requires-2 : tie.Need-store-cell-requires-2
-store-cell-requires-2 c κs = search rules
-
-add-store-cell-2 : tie.Need-overflow-add-store-cell-2
-add-store-cell-2 c = search rules
-
-store-cell-requires-3 : tie.Need-store-cell-requires-3
-store-cell-requires-3 c κs = search rules
-
-add-store-cell-3 : tie.Need-overflow-add-store-cell-3
-add-store-cell-3 c = search rules
-
-store-cell-requires-4 : tie.Need-store-cell-requires-4
-store-cell-requires-4 c κs = search rules
+put-value-requires : tie.Need-put-value-requires
+put-value-requires c κs = search rules
 
 same_length : tie.Need-same-length
 same_length c = search rules
@@ -40,30 +24,18 @@ same-length-3 c = search rules
 
 returns : tie.Need-returns
 returns c =
-    let fourth = c.before.before.before.before.before.before in
-    let third = fourth.before.before.before.before.before.before.before.before.before.before in
-    let second = third.before.before.before.before.before.before.before.before.before.before in
-    let first = second.before.before.before.before.before.before.before.before.before.before in
-    let placed = first.before.before.before.before in
-    let start = placed.before.before.before.before in
-    let given = start.args in
-    let good = start.well-formed in
-    let short = lent-short given.rounds.now given.sets.now given.values.now good.0.1 good.1.0.1 good.1.1.0.1 in
-    cell-stored given.index placed.first-place.ensures _ short given.cell
-    first.store-cell.ensures second.store-cell2.ensures third.store-cell3.ensures fourth.store-cell4.ensures
+    let value-put = c.before.before in
+    let set-put = value-put.before.before.before.before in
+    let round-put = set-put.before.before.before.before in
+    rw (round-put.put-round.ensures, set-put.put_byte.ensures, value-put.put-value.ensures)
 
 pub store-cell-spec : {M : Type 1} → statement M
 store-cell-spec =
     tie.close
     (tie.spec
-    first-place-requires
-    store-cell-requires
-    add-store-cell
-    store-cell-requires-2
-    add-store-cell-2
-    store-cell-requires-3
-    add-store-cell-3
-    store-cell-requires-4
+    put-round-requires
+    put-byte-requires
+    put-value-requires
     same_length
     same-length-2
     same-length-3
