@@ -1,4 +1,6 @@
 // The acceptor: obeys prepares and proposes at the cells of its lent tables.
+#![tactic(auto)]
+
 ghost use Rattle.std.specs.Prelude.{◌≡◌, length};
 ghost use Rattle.basics.specs.Outcome.{outcome, lent};
 ghost use Rattle.wire.specs.Packet.{packet_length};

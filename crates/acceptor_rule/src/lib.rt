@@ -1,4 +1,6 @@
 // What an acceptor keeps of one instance, and the rule by which it obeys a prepare or a propose.
+#![tactic(auto)]
+
 ghost use Rattle.std.specs.Prelude.{◌≡◌};
 ghost use Rattle.acceptor_rule.specs.Rule.{fresh_cell, possible, order_of, promising, voting, obey, ruling_of};
 
@@ -6,7 +8,7 @@ use basics::{Instance, Round, Value};
 use messages::Message;
 
 // What an acceptor keeps of one instance.
-#[derive(Drop)]
+#[derive(Clone, Copy)]
 pub struct Cell {
     pub round: Round,
     pub vote_round: Round,
@@ -15,28 +17,28 @@ pub struct Cell {
 
 // A prepare or a propose: what it asks of an acceptor. Instance and round stand apart, since the compiler moves two neighbours as one number and then has
 // to part them.
-#[derive(Drop)]
+#[derive(Clone, Copy)]
 pub struct Order {
     pub instance: Instance,
     pub asked: Asked,
     pub round: Round,
 }
 
-#[derive(Drop)]
+#[derive(Clone, Copy)]
 pub enum Asked {
     Promise,
     Vote { value: Value },
 }
 
 // What a message orders. One of another kind is no acceptor's.
-#[derive(Drop)]
+#[derive(Clone, Copy)]
 pub enum Ordered {
     Order(Order),
     OtherKind,
 }
 
 // What an order comes to at a cell: the next cell and the message that goes out, or the refusal.
-#[derive(Drop)]
+#[derive(Clone, Copy)]
 pub enum Ruled {
     Promised { cell: Cell, message: Message },
     Voted { cell: Cell, message: Message },

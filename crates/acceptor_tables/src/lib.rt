@@ -1,5 +1,7 @@
 // An acceptor's lent tables: one cell for each instance, as columns of rounds, of vote rounds and of values. Which of them are allowed is judged here, and here
 // they are set fresh; the acceptor itself reads and writes their cells, since its step must not test an index that it has tested.
+#![tactic(auto)]
+
 ghost use Rattle.std.specs.Prelude.{◌≡◌};
 ghost use Rattle.basics.specs.Outcome.{outcome};
 ghost use Rattle.quorum.specs.Settings.{settings};

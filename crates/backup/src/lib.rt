@@ -1,4 +1,6 @@
 // A backup leader: started by hand, it asks the acceptors for promises, and at a majority proposes.
+#![tactic(auto)]
+
 ghost use Rattle.std.specs.Prelude.{◌≡◌, length};
 ghost use Rattle.basics.specs.Outcome.{outcome, lent};
 ghost use Rattle.basics.specs.Rounds.{the_instance};

@@ -1,11 +1,13 @@
 // What a backup keeps of one instance, and which of that is possible.
+#![tactic(auto)]
+
 ghost use Rattle.std.specs.Prelude.{◌≡◌};
 ghost use Rattle.backup_cell.specs.Cell.{fresh_cell, is_fresh, phase_fits, is_started, possible};
 
 use basics::{Round, Value};
 
 // What a backup keeps of one instance. The phase is its number in the lent table; any other number is an impossible cell.
-#[derive(Drop)]
+#[derive(Clone, Copy)]
 pub struct Cell {
     pub round: Round,
     pub phase: u8,

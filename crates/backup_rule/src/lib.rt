@@ -1,4 +1,6 @@
 // A backup's rules at one cell: how it starts, and how promises are counted.
+#![tactic(auto)]
+
 ghost use Rattle.std.specs.Prelude.{◌≡◌, max};
 ghost use Rattle.backup_rule.specs.Rule.{next_round, start, counting, chosen, when_majority, take_promise, ruling_of};
 
@@ -7,7 +9,7 @@ use basics::{Instance, Round, Value};
 use messages::Message;
 
 // What a start or a promise comes to at a cell.
-#[derive(Drop)]
+#[derive(Clone, Copy)]
 pub enum Ruled {
     Sent { cell: Cell, message: Message },
     Held { cell: Cell },

@@ -1,5 +1,7 @@
 // A backup's lent tables: one cell for each instance, a column for each field. Which of them are allowed, their cells, read and written, and all of them set
 // fresh. Past their end the tables read as 0 and are not written.
+#![tactic(auto)]
+
 ghost use Rattle.std.specs.Prelude.{◌≡◌};
 ghost use Rattle.basics.specs.Outcome.{outcome};
 ghost use Rattle.quorum.specs.Settings.{settings};

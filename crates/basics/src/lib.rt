@@ -1,4 +1,6 @@
 // What all players share: instances and rounds, values, places and verdicts.
+#![tactic(auto)]
+
 ghost use Rattle.std.specs.Prelude.{◌≡◌};
 ghost use Rattle.basics.specs.Rounds.{is_none, owner_of, owned_or_0, owned_not_0, rank, at_most, same_round};
 ghost use Rattle.basics.specs.Values.{is_null, same_value};
@@ -7,28 +9,28 @@ ghost use Rattle.basics.specs.Places.{placed, nowhere_of};
 ghost use Rattle.basics.specs.Verdict.{verdict_number};
 
 #[repr(C)]
-#[derive(Drop)]
+#[derive(Clone, Copy)]
 pub struct Instance(pub u32);
 
-#[derive(Drop)]
+#[derive(Clone, Copy)]
 pub struct Round(pub u32);
 
 // Sixteen bytes, as two big-endian halves.
-#[derive(Drop)]
+#[derive(Clone, Copy)]
 pub struct Value {
     pub high: u64,
     pub low: u64,
 }
 
 // Where a message's cell stands, or the refusal.
-#[derive(Drop)]
+#[derive(Clone, Copy)]
 pub enum Place {
     At(usize),
     Nowhere(u32),
 }
 
 // What a call says to do. `Done` is for the calls that send and count nothing, and the last two for those that have nothing to tell.
-#[derive(Drop)]
+#[derive(Clone, Copy)]
 pub enum Verdict {
     ToAcceptors,
     ToLeader,

@@ -1,4 +1,6 @@
 // What a line of the bench means: a packet for a player, or the start of a backup. A line is words with a space behind each but the last.
+#![tactic(auto)]
+
 ghost use Rattle.std.specs.Prelude.{◌≡◌, true, ◌*◌, ◌≤◌, length};
 ghost use Rattle.bench_lines.specs.Line.{first_word, rest_of, digit_of, are_digits, is_hex, bytes_of, number_of, is_decimal, value_of};
 ghost use Rattle.bench_lines.specs.Line.{is_letter, is_numbered, own_of, is_bad, player_of, start_with, start_of, meaning, meaning_of, listed, listed_in};
@@ -6,7 +8,7 @@ ghost use Rattle.bench_lines.specs.Line.{is_letter, is_numbered, own_of, is_bad,
 use basics::Value;
 
 // What a line asks for. The bytes of a packet stand in the buffer that was lent with the line.
-#[derive(Drop)]
+#[derive(Clone, Copy)]
 pub enum Command {
     Primary,
     Acceptor(u32),

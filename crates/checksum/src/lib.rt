@@ -1,4 +1,6 @@
 // The one's complement sum of 16-bit words, and its complement.
+#![tactic(auto)]
+
 ghost use Rattle.std.specs.Prelude.{◌≡◌, ◌+◌, ◌*◌, ◌/◌, ◌%◌, ◌≤◌};
 ghost use Rattle.checksum.specs.Sum.{carry_round, sum_onto, complement as complement_of};
 ghost use Rattle.checksum.specs.Promises.{residue};

@@ -1,4 +1,6 @@
 // Columns of lent tables: a number for each cell, and for a value two, its high half first. Past its end a column reads as 0 and is not written.
+#![tactic(auto)]
+
 ghost use Rattle.std.specs.Prelude.{◌≡◌, length, get_or, set, replicate};
 ghost use Rattle.columns.specs.Columns.{round_at, with_round, byte_at, with_byte, value_at, with_value};
 

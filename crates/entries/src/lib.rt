@@ -1,4 +1,6 @@
 // Entries of the ride ledger: what the 16 bytes of a value say.
+#![tactic(auto)]
+
 ghost use Rattle.std.specs.Prelude.{◌≡◌, length};
 ghost use Rattle.entries.specs.Entry.{fields_in, is_null, is_sale, is_boarding, entry_of, entry_in};
 
@@ -7,7 +9,7 @@ const ENTRY_LENGTH: usize = 16;
 pub const MOST_RIDES: u8 = 40;
 
 // The fields of an entry, as they stand in its bytes. `rest` is the last four.
-#[derive(Drop)]
+#[derive(Clone, Copy)]
 struct Fields {
     kind: u8,
     rides: u8,
@@ -18,7 +20,7 @@ struct Fields {
 }
 
 // What an entry says.
-#[derive(Drop)]
+#[derive(Clone, Copy)]
 pub enum Entry {
     Null,
     Malformed,

@@ -1,4 +1,6 @@
 // Frames: Ethernet II, IPv4 and UDP around a packet. They are judged, and their checksums are set anew.
+#![tactic(auto)]
+
 ghost use Rattle.std.specs.Prelude.{◌≡◌, length};
 ghost use Rattle.basics.specs.Outcome.{outcome};
 ghost use Rattle.frames.specs.Frame.{frame_length, ipv4_checksum, udp_checksum, carries_udp, frame_check, sealed, frame_seal};

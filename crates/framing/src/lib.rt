@@ -1,4 +1,6 @@
 // Framing: a started prepare, which has come in no frame, gets one.
+#![tactic(auto)]
+
 ghost use Rattle.std.specs.Prelude.{◌≡◌, ◌+◌, ◌≤◌, length};
 ghost use Rattle.std.proofs.lemmas.List.Edits.{sets};
 ghost use Rattle.basics.specs.Outcome.{outcome};

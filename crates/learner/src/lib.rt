@@ -1,4 +1,6 @@
 // A learner: counts votes at the cells of its lent tables, and answers what is decided for an instance.
+#![tactic(auto)]
+
 ghost use Rattle.std.specs.Prelude.{◌≡◌};
 ghost use Rattle.basics.specs.Rounds.{the_instance};
 ghost use Rattle.basics.specs.Values.{the_value};
@@ -17,7 +19,7 @@ use quorum::Settings;
 use wire::Reading;
 
 // What a learner says of an instance.
-#[derive(Drop)]
+#[derive(Clone, Copy)]
 pub enum Answer {
     Decided { value: Value },
     NotYet,

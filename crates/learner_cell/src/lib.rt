@@ -1,10 +1,12 @@
 // What a learner keeps of one instance, the votes of one round, and which of that is possible and decided.
+#![tactic(auto)]
+
 ghost use Rattle.std.specs.Prelude.{◌≡◌};
 ghost use Rattle.learner_cell.specs.Cell.{fresh_cell, is_decided, has_vote, value_of, is_fresh, is_heard, possible, with_voter};
 
 use basics::{Round, Value};
 
-#[derive(Drop)]
+#[derive(Clone, Copy)]
 pub struct Cell {
     pub round: Round,
     pub set: u8,

@@ -1,4 +1,6 @@
 // What a learner hands on: the values of instances 0, 1, .. before the first undecided one. Every cell is looked at.
+#![tactic(auto)]
+
 ghost use Rattle.std.specs.Prelude.{◌≡◌, ◌*◌, length};
 ghost use Rattle.basics.specs.Outcome.{outcome, lent};
 ghost use Rattle.quorum.specs.Settings.{settings};

@@ -1,5 +1,7 @@
 // The bytes of a file that holds a learner's table, of any version: a header, then 21 bytes for each cell.
 // Past its end a file reads as 0, and what does not lie within a buffer is not written.
+#![tactic(auto)]
+
 ghost use Rattle.std.specs.Prelude.{◌≡◌};
 ghost use Rattle.quorum.specs.Settings.{settings};
 ghost use Rattle.learner_tables.specs.Tables.{tables, with_cell, first_cells, all_possible};

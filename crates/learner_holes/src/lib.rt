@@ -1,4 +1,6 @@
 // The first hole of a learner's tables: the smallest undecided instance below the highest decided one or with a vote in its set. Every cell is looked at.
+#![tactic(auto)]
+
 ghost use Rattle.std.specs.Prelude.{◌≡◌};
 ghost use Rattle.basics.specs.Outcome.{outcome};
 ghost use Rattle.quorum.specs.Settings.{settings};
@@ -10,7 +12,7 @@ use learner_cell::Cell;
 use quorum::Settings;
 
 // The first hole.
-#[derive(Drop)]
+#[derive(Clone, Copy)]
 pub enum Hole {
     Found(Instance),
     NoHole,

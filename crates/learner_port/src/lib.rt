@@ -1,5 +1,7 @@
 // A learner at a switch port: the frame is judged, and the packet within is handed to its own call. It never changes the packet, so that both checksums
 // stay right.
+#![tactic(auto)]
+
 ghost use Rattle.std.specs.Prelude.{◌≡◌};
 ghost use Rattle.basics.specs.Outcome.{outcome, lent};
 ghost use Rattle.quorum.specs.Settings.{settings};

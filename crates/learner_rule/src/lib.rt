@@ -1,4 +1,6 @@
 // The rule by which a learner counts a vote at a cell.
+#![tactic(auto)]
+
 ghost use Rattle.std.specs.Prelude.{◌≡◌};
 ghost use Rattle.learner_rule.specs.Rule.{hold_or_decide, count_vote, ruling_of};
 
@@ -6,7 +8,7 @@ use basics::{Round, Value};
 use learner_cell::Cell;
 
 // What a vote comes to at a cell.
-#[derive(Drop)]
+#[derive(Clone, Copy)]
 pub enum Ruled {
     Held { cell: Cell },
     Decided { cell: Cell },

@@ -1,4 +1,6 @@
 // The saved learner table, version 1: a learner's lent tables are written to a buffer, and are replaced by the cells of a saved table.
+#![tactic(auto)]
+
 ghost use Rattle.std.specs.Prelude.{◌≡◌};
 ghost use Rattle.basics.specs.Outcome.{outcome, lent};
 ghost use Rattle.quorum.specs.Settings.{settings};

@@ -1,4 +1,6 @@
 // A learner's lent tables: one cell for each instance, as columns of rounds, of sets and of values.
+#![tactic(auto)]
+
 ghost use Rattle.std.specs.Prelude.{◌≡◌};
 ghost use Rattle.basics.specs.Outcome.{outcome};
 ghost use Rattle.quorum.specs.Settings.{settings};

@@ -1,4 +1,6 @@
 // The ride ledger: which scan of a pass is a ride. It is fed by the delivered list, entry after entry, and so it is the same at every reader.
+#![tactic(auto)]
+
 ghost use Rattle.std.specs.Prelude.{◌≡◌, true};
 ghost use Rattle.basics.specs.Outcome.{outcome};
 ghost use Rattle.passes.specs.Passes.{columns, table, in_use, sound};

@@ -1,11 +1,13 @@
 // The ledger's rule for a boarding at its pass, by value.
+#![tactic(auto)]
+
 ghost use Rattle.std.specs.Prelude.{◌≡◌};
 ghost use Rattle.ledger_rule.specs.Rule.{board_pass};
 
 use passes::Pass;
 
 // What a boarding comes to at its pass: the pass behind it, or the refusal.
-#[derive(Drop)]
+#[derive(Clone, Copy)]
 pub enum Boarded {
     Taken(Pass),
     Refused(u32),

@@ -1,4 +1,6 @@
 // Messages: the fields of a packet, the packet table, and what a packet that keeps it says.
+#![tactic(auto)]
+
 ghost use Rattle.std.specs.Prelude.{◌≡◌};
 ghost use Rattle.messages.specs.Table.{by_owner, request_row, prepare_row, promise_row, propose_row, vote_row, all_kept, keeps_table};
 ghost use Rattle.messages.specs.Message.{message_of, fields_of};
@@ -6,7 +8,7 @@ ghost use Rattle.messages.specs.Message.{message_of, fields_of};
 use basics::{Instance, Round, Value};
 
 // The fields of a packet, as they stand there. `kind` is its type.
-#[derive(Drop)]
+#[derive(Clone, Copy)]
 pub struct Fields {
     pub kind: u8,
     pub switch: u16,
@@ -17,7 +19,7 @@ pub struct Fields {
 }
 
 // Which columns of the packet table the fields keep.
-#[derive(Drop)]
+#[derive(Clone, Copy)]
 pub struct Row {
     pub switch: bool,
     pub instance: bool,
@@ -27,7 +29,7 @@ pub struct Row {
 }
 
 // What a packet says. The fields that its row of the packet table fixes are left out.
-#[derive(Drop)]
+#[derive(Clone, Copy)]
 pub enum Message {
     Request {
         switch: u16,

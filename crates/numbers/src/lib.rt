@@ -1,6 +1,8 @@
 // Big-endian numbers of 2, 4 and 8 bytes at a place of a byte slice. A number that does not lie within the slice is read as 0 and is not written.
 // Each is read and written least significant byte first, which is one load or store of the machine, and swapped by arithmetic, which is one instruction;
 // but two bytes are stored one by one, which is shorter than a swap.
+#![tactic(auto)]
+
 ghost use Rattle.std.specs.Prelude.{◌≡◌, ◌+◌, ◌≤◌, leb, length};
 ghost use Rattle.numbers.specs.BigEndian.{number_at, with_number_at};
 ghost use Rattle.numbers.specs.Swapped.{swapped};

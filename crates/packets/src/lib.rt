@@ -1,4 +1,6 @@
 // Packets for hosts: the fields, each a number of its own, are written to 36 bytes, and 36 bytes are read into the fields.
+#![tactic(auto)]
+
 ghost use Rattle.std.specs.Prelude.{◌≡◌};
 ghost use Rattle.basics.specs.Outcome.{outcome};
 ghost use Rattle.packets.specs.Packets.{numbered, packet_write, packet_read};

@@ -1,4 +1,6 @@
 // The ledger's lent table: a count of the passes in use, and four columns of 256. Places past the count are not looked at.
+#![tactic(auto)]
+
 ghost use Rattle.std.specs.Prelude.{◌≡◌, ◌+◌, ◌-◌, set};
 ghost use Rattle.columns.specs.Walks.{cells_from, every};
 ghost use Rattle.passes.specs.Passes.{columns, table, number_in, pass_at, with_pass, place_of, twice, rides_fit, is_sized, sound, is_full};
@@ -6,7 +8,7 @@ ghost use Rattle.passes.specs.Passes.{columns, table, number_in, pass_at, with_p
 const MOST_PASSES: u32 = 256;
 
 // What the ledger keeps of a pass.
-#[derive(Drop)]
+#[derive(Clone, Copy)]
 pub struct Pass {
     pub number: u32,
     pub rides_left: u8,

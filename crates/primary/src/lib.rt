@@ -1,4 +1,6 @@
 // The primary leader: takes requests at its one cell, the record that its caller keeps and lends for each packet, as a slice of one number or by reference.
+#![tactic(auto)]
+
 ghost use Rattle.std.specs.Prelude.{◌≡◌, length};
 ghost use Rattle.basics.specs.Outcome.{outcome, lent};
 ghost use Rattle.wire.specs.Packet.{packet_length};
@@ -38,7 +40,7 @@ pub extern "C" fn myrthakel_primary_fresh(acceptors: u32, instances: u32, next: 
 }
 
 // What a step answers, and the cell afterwards.
-#[derive(Drop)]
+#[derive(Clone, Copy)]
 struct Stepped {
     cell: Cell,
     answer: u32,

@@ -1,4 +1,6 @@
 // The primary at a switch port: the frame is judged, the packet within is handed to its own call, and both checksums are set anew. No rule is added.
+#![tactic(auto)]
+
 ghost use Rattle.std.specs.Prelude.{◌≡◌};
 ghost use Rattle.basics.specs.Outcome.{outcome, lent};
 ghost use Rattle.quorum.specs.Settings.{settings};

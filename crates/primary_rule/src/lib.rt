@@ -1,4 +1,6 @@
 // What the primary keeps, and the rule by which it takes a request: each request gets the next instance.
+#![tactic(auto)]
+
 ghost use Rattle.std.specs.Prelude.{◌≡◌};
 ghost use Rattle.primary_rule.specs.Rule.{fresh_cell, possible, take_request, ruling_of};
 
@@ -7,13 +9,13 @@ use messages::Message;
 
 // What the primary keeps: one cell for all instances. Its caller may lend it by reference, so it is laid out as in C.
 #[repr(C)]
-#[derive(Drop)]
+#[derive(Clone, Copy)]
 pub struct Cell {
     pub next: Instance,
 }
 
 // What a request comes to at the cell: the next cell and the message that goes out, or the refusal.
-#[derive(Drop)]
+#[derive(Clone, Copy)]
 pub enum Ruled {
     Sent { cell: Cell, message: Message },
     Refused(u32),

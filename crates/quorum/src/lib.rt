@@ -1,10 +1,12 @@
 // M, N and majority, and sets of acceptors: a set is a u8, bit i for acceptor i, and its size is its count of ones.
+#![tactic(auto)]
+
 ghost use Rattle.std.specs.Prelude.{◌≡◌};
 ghost use Rattle.quorum.specs.Quorum.{majority, has_member, with_member, within, size, reaches, reaches_majority};
 ghost use Rattle.quorum.specs.Settings.{allowed};
 
 // M acceptors and N instances, as every call is given them.
-#[derive(Drop)]
+#[derive(Clone, Copy)]
 pub struct Settings {
     pub acceptors: u32,
     pub instances: u32,

@@ -1,4 +1,6 @@
 // The packet layer: 36 bytes are read into a message or a refusal, and a message is written to 36 bytes.
+#![tactic(auto)]
+
 ghost use Rattle.std.specs.Prelude.{◌≡◌, [], ◌∷◌, length};
 ghost use Rattle.std.proofs.lemmas.List.Edits.{sets};
 ghost use Rattle.basics.specs.Outcome.{outcome};
@@ -7,7 +9,7 @@ ghost use Rattle.wire.specs.Packet.{packet_length, marked, fields_in, read_packe
 use basics::{Instance, Round, Value, Verdict};
 use messages::{Fields, Message};
 
-#[derive(Drop)]
+#[derive(Clone, Copy)]
 pub enum Reading {
     Read(Message),
     Refused(u32),
