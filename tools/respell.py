@@ -20,7 +20,7 @@ APART = {"to-bytes": "to_is_bytes", "sameBytes": "equal_bytes"}
 
 
 def snake(name):
-    return re.sub(r"(?<=[a-z])(?=\d+'?$)", "_", re.sub(r"(?<=[a-z0-9])(?=[A-Z])", "_", name)).lower()
+    return re.sub(r"(?<=[a-z])(?=\d+'?$)", "_", re.sub(r"(?<=[a-z0-9])(?=[A-Z])|(?<=[A-Z])(?=[A-Z][a-z])", "_", name)).lower()
 
 
 def parts(name):

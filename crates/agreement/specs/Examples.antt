@@ -166,8 +166,8 @@ taken = played three early taking_over
 -- ---- a hole repaired with the null value
 
 -- The propose for instance 0 is lost on its way; instance 1 is decided.
-abbrev pub leaving_ahole : List Row
-leaving_ahole =
+abbrev pub leaving_a_hole : List Row
+leaving_a_hole =
     primary_gets (Request 9 v) to_acceptors
     ∷ primary_gets_by_reference (Request 9 u) to_acceptors
     ∷ acceptor_gets 0 (Propose second (the_round 0) u) to_learners
@@ -193,7 +193,7 @@ repairing =
     ∷ []
 
 abbrev pub holed : Boxes
-holed = played three (fresh_boxes 2) leaving_ahole
+holed = played three (fresh_boxes 2) leaving_a_hole
 
 abbrev pub repaired : Boxes
 repaired = played three holed repairing
@@ -345,7 +345,7 @@ pub record Computed : Type 0 where
   pub old_votes_heard : said three taken 0 first ≡ says v
   pub new_votes_heard : said three taken 1 first ≡ says v
   pub no_votes_heard : said three taken 2 first ≡ not_yet
-  pub leaving_a_hole_plays : plays three (fresh_boxes 2) leaving_ahole ≡ true
+  pub leaving_a_hole_plays : plays three (fresh_boxes 2) leaving_a_hole ≡ true
   pub the_hole : find_hole three (holed.learner 0) ≡ holes.Found first
   pub repairing_plays : plays three holed repairing ≡ true
   pub null_said : said three repaired 0 first ≡ says null

@@ -8,7 +8,7 @@ use Rattle.numbers.specs.BigEndian.{Bytes}
 use Rattle.basics.specs.declared.Instance.{Instance}
 use Rattle.basics.specs.declared.Round.{Round}
 use Rattle.basics.specs.declared.Value.{Value}
-use Rattle.basics.specs.Ladder.{if◌then◌else◌}
+use Rattle.basics.specs.Ladder.{when◌then◌else◌}
 use Rattle.basics.specs.Verdict.{says_send}
 use Rattle.messages.specs.declared.Message.TheVariants.{Request, Vote}
 use Rattle.wire.specs.declared.Reading.TheVariants.{Read}
@@ -76,11 +76,11 @@ primary_record w = cell_at w.primary 0
 
 -- All as before, but for one.
 unfoldable pub put : {A : Type 0} → (before : ℕ → A) → (one : ℕ) → A → ℕ → A
-put before one new other = if eqb one other then new else before other
+put before one new other = when eqb one other then new else before other
 
 -- One more where the verdict says to send.
 abbrev pub more_when_sent : {A : Type 0} → (answer : ℕ) → A → List A → List A
-more_when_sent answer new before = if says_send answer then new ∷ before else before
+more_when_sent answer new before = when says_send answer then new ∷ before else before
 
 -- Where the verdict says to send, the packet as it is at exit is sent.
 abbrev pub sending : {Tables : Type 0} → Caller → Outcome (Lent Tables) → List Sent → List Sent

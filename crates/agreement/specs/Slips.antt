@@ -4,7 +4,7 @@
 -- Assumes nothing.
 use Rattle.std.specs.Prelude.{ℕ, ◌≡◌, Bool, true, List, [], ◌∷◌, ◌++◌}
 use Rattle.basics.specs.declared.Value.{Value}
-use Rattle.basics.specs.Ladder.{if◌then◌else◌, need◌or◌then◌}
+use Rattle.basics.specs.Ladder.{when◌then◌else◌, need◌or◌then◌}
 use Rattle.basics.specs.Outcome.{Outcome, outcome, Lent, lent}
 use Rattle.basics.specs.Rounds.{the_round, none, is_none}
 use Rattle.basics.specs.Values.{null}
@@ -122,7 +122,7 @@ pub record TwoDecided (slip : Slip) (before after : List Row) (one other : Value
 -- A cell that never voted is taken for one that voted in round 0.
 abbrev pub never_voted_is_round_0 : (own : ℕ) → acceptor_cells.Cell → Message → Ruling acceptor_cells.Cell
 never_voted_is_round_0 own c =
-    acceptors.rule own (acceptor_rule.cell c.round (if is_none c.vote_round then the_round 0 else c.vote_round) c.value)
+    acceptors.rule own (acceptor_rule.cell c.round (when is_none c.vote_round then the_round 0 else c.vote_round) c.value)
 
 -- v is decided, and acceptor 0, who voted for it, promises backup 1.
 abbrev pub voting_then_promising : List Row
@@ -242,8 +242,8 @@ voting_in_round_5 =
 -- ---- a value made up
 
 -- A backup has v for its own value, whatever the start named.
-abbrev pub makes_avalue_up : (own : ℕ) → backup_cells.Cell → Message → Ruling backup_cells.Cell
-makes_avalue_up own c = backups.rule 3 own (backup_cell.cell c.round c.phase c.set c.best_vote_round c.best_value v)
+abbrev pub makes_a_value_up : (own : ℕ) → backup_cells.Cell → Message → Ruling backup_cells.Cell
+makes_a_value_up own c = backups.rule 3 own (backup_cell.cell c.round c.phase c.set c.best_vote_round c.best_value v)
 
 -- Backup 1 is started with u, and nobody asked for v.
 abbrev pub starting_with_u : List Row
@@ -334,7 +334,7 @@ abbrev pub earlier_promise : Slip
 earlier_promise = backup_slips (adds_earlier_promises 1) 1 (Promise 0 first (the_round 1) none null)
 
 abbrev pub made_up_value : Slip
-made_up_value = backup_slips (makes_avalue_up 1) 1 (Promise 1 first (the_round 1) none null)
+made_up_value = backup_slips (makes_a_value_up 1) 1 (Promise 1 first (the_round 1) none null)
 
 -- What each leads to.
 pub record Slips : Type 0 where

@@ -5,7 +5,7 @@ use Rattle.basics.specs.declared.Instance.{Instance}
 use Rattle.basics.specs.declared.Round.{Round}
 use Rattle.basics.specs.declared.Value.{Value}
 use Rattle.basics.specs.declared.Verdict.TheVariants.{ToAcceptors, Hold}
-use Rattle.basics.specs.Ladder.{if◌then◌else◌, need◌or◌then◌}
+use Rattle.basics.specs.Ladder.{when◌then◌else◌, need◌or◌then◌}
 use Rattle.basics.specs.Rounds.{the_round, none, is_none, at_most, same_round}
 use Rattle.basics.specs.Values.{null}
 use Rattle.messages.specs.declared.Message.TheVariants.{Prepare, Propose}
@@ -39,13 +39,13 @@ start M own c instance floor value =
 -- A promise is added. If it carries a vote round above the best so far (any beats none), that and its value become the best.
 unfoldable pub counting : Cell → (sender : ℕ) → (vote_round : Round) → Value → Cell
 counting c sender vote_round value =
-    if at_most vote_round c.best_vote_round
+    when at_most vote_round c.best_vote_round
     then cell c.round c.phase (with_member c.set sender) c.best_vote_round c.best_value c.own_value
     else cell c.round c.phase (with_member c.set sender) vote_round value c.own_value
 
 -- The best value, or the own value where best is none.
 unfoldable pub chosen : Cell → Value
-chosen c = if is_none c.best_vote_round then c.own_value else c.best_value
+chosen c = when is_none c.best_vote_round then c.own_value else c.best_value
 
 abbrev pub closed : Cell → Cell
 closed c = cell c.round proposed c.set c.best_vote_round c.best_value c.own_value
@@ -53,7 +53,7 @@ closed c = cell c.round proposed c.set c.best_vote_round c.best_value c.own_valu
 -- When the set reaches majority, phase becomes proposed and the packet becomes a propose.
 unfoldable pub when_majority : (M : ℕ) → Instance → Cell → Ruling Cell
 when_majority M instance c =
-    if reaches_majority M c.set then sends ToAcceptors (Propose instance c.round (chosen c)) (closed c) else counts Hold c
+    when reaches_majority M c.set then sends ToAcceptors (Propose instance c.round (chosen c)) (closed c) else counts Hold c
 
 -- A promise for the current round while asking is added: 9, 17, 11, 15.
 unfoldable pub take_promise : (M own : ℕ) → Cell → (sender : ℕ) → Instance → (round vote_round : Round) → Value → Ruling Cell

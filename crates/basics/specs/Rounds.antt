@@ -3,7 +3,7 @@
 use Rattle.std.specs.Prelude.{ℕ, ◌+◌, ◌%◌, Bool, ◌&&◌, ◌==◌, nat_le}
 use Rattle.basics.specs.declared.Instance.{Instance}
 use Rattle.basics.specs.declared.Round.{Round}
-use Rattle.basics.specs.Ladder.{if◌then◌else◌}
+use Rattle.basics.specs.Ladder.{when◌then◌else◌}
 
 abbrev pub the_instance : ℕ → Instance
 the_instance number = record { 0 = number }
@@ -25,9 +25,9 @@ nobody = 4
 -- Round 0 belongs to the primary (number 0). A round whose remainder by 4 is 1, 2 or 3 belongs to that backup. Other rounds belong to nobody.
 unfoldable pub owner_of : Round → ℕ
 owner_of r =
-    if r.0 == 0 then 0 else
-    if is_none r then nobody else
-    if r.0 % 4 == 0 then nobody else
+    when r.0 == 0 then 0 else
+    when is_none r then nobody else
+    when r.0 % 4 == 0 then nobody else
     r.0 % 4
 
 -- "owned, or 0": the primary or a backup owns it
@@ -40,7 +40,7 @@ owned_not_0 r = nat_le 1 (owner_of r) && nat_le (owner_of r) 3
 
 -- "any beats none": the place of a round in the order, none first, then 0, 1, ..
 unfoldable pub rank : Round → ℕ
-rank r = if is_none r then 0 else r.0 + 1
+rank r = when is_none r then 0 else r.0 + 1
 
 unfoldable pub at_most : Round → Round → Bool
 at_most a b = nat_le (rank a) (rank b)

@@ -3,7 +3,7 @@
 -- Assumes nothing.
 use Rattle.std.specs.Prelude.{ℕ, ◌+◌, ◌-◌, ◌*◌, Bool, true, false, ◌&&◌, not, List, [], ◌∷◌, eqb, leb, ltb, length, get_or}
 use Rattle.numbers.specs.BigEndian.{number_at}
-use Rattle.basics.specs.Ladder.{if◌then◌else◌, need◌or◌then◌}
+use Rattle.basics.specs.Ladder.{when◌then◌else◌, need◌or◌then◌}
 use Rattle.basics.specs.Values.{the_value}
 use Rattle.basics.specs.declared.Value.{Value}
 use Rattle.bench_lines.specs.declared.Command.{Command}
@@ -38,21 +38,21 @@ start_letter = 115
 
 unfoldable pub first_word : (line : List ℕ) → List ℕ
 first_word [] = []
-first_word (byte ∷ bytes) = if eqb byte space then [] else byte ∷ first_word bytes
+first_word (byte ∷ bytes) = when eqb byte space then [] else byte ∷ first_word bytes
 
 -- What stands behind the first space; nothing where there is none.
 unfoldable pub rest_of : (line : List ℕ) → List ℕ
 rest_of [] = []
-rest_of (byte ∷ bytes) = if eqb byte space then bytes else rest_of bytes
+rest_of (byte ∷ bytes) = when eqb byte space then bytes else rest_of bytes
 
 -- ---- digits
 
 -- 0 to 9, A to F, a to f: a hex digit's number, of either case; 16 for any other byte.
 unfoldable pub digit_of : (byte : ℕ) → ℕ
 digit_of byte =
-    if leb 48 byte && leb byte 57 then byte - 48
-    else if leb 65 byte && leb byte 70 then byte - 65 + 10
-    else if leb 97 byte && leb byte 102 then byte - 97 + 10
+    when leb 48 byte && leb byte 57 then byte - 48
+    else when leb 65 byte && leb byte 70 then byte - 65 + 10
+    else when leb 97 byte && leb byte 102 then byte - 97 + 10
     else 16
 
 -- Each byte is a digit of the base.
@@ -103,10 +103,10 @@ is_numbered letter first last name = eqb (length name) 2 && eqb (get_or name 0 0
 -- p, a0 to a2, b1 to b3, l
 unfoldable pub player_of : (name : List ℕ) → Command
 player_of name =
-    if is_letter primary_letter name then Primary
-    else if is_numbered acceptor_letter 0 2 name then Acceptor (own_of name)
-    else if is_numbered backup_letter 1 3 name then Backup (own_of name)
-    else if is_letter learner_letter name then Learner
+    when is_letter primary_letter name then Primary
+    else when is_numbered acceptor_letter 0 2 name then Acceptor (own_of name)
+    else when is_numbered backup_letter 1 3 name then Backup (own_of name)
+    else when is_letter learner_letter name then Learner
     else Bad
 
 unfoldable pub is_bad : Command → Bool

@@ -3,7 +3,7 @@
 -- Assumes nothing.
 use Rattle.std.specs.Prelude.{ℕ, zero, suc, ◌+◌, ◌*◌, ◌%◌, ◌<◌, ◌≡◌, List, [], ◌∷◌, ◌++◌, eqb, length, get_or, set}
 use Rattle.numbers.specs.BigEndian.{Bytes}
-use Rattle.basics.specs.Ladder.{if◌then◌else◌}
+use Rattle.basics.specs.Ladder.{when◌then◌else◌}
 use Rattle.checksum.specs.Sum.{sum_onto}
 
 -- The plain sum of the words of bytes.
@@ -27,7 +27,7 @@ PartsAdd = (carried : ℕ) (front back : List ℕ) → length front % 2 ≡ 0 �
 
 -- What a byte weighs in the plain sum: the high byte of a word 256, the low byte 1.
 unfoldable pub weight : (index : ℕ) → ℕ
-weight index = if eqb (index % 2) 0 then 256 else 1
+weight index = when eqb (index % 2) 0 then 256 else 1
 
 -- One byte changed moves the plain sum by its weight times the change.
 abbrev pub ByteMoves : Type 0

@@ -2,7 +2,7 @@
 -- Assumes nothing.
 use Rattle.std.specs.Prelude.{ℕ, Bool, ◌&&◌, List, [], ◌∷◌, ◌++◌, eqb, leb, length, get_or}
 use Rattle.numbers.specs.BigEndian.{number_at, to_bytes}
-use Rattle.basics.specs.Ladder.{if◌then◌else◌, need◌or◌then◌}
+use Rattle.basics.specs.Ladder.{when◌then◌else◌, need◌or◌then◌}
 use Rattle.entries.specs.declared.Fields.{Fields}
 use Rattle.entries.specs.declared.Entry.{Entry}
 use Rattle.entries.specs.declared.Entry.TheVariants.{Null, Malformed, Sale, Boarding}
@@ -37,9 +37,9 @@ is_boarding f = eqb f.kind 2 && eqb f.rides 0 && eqb f.rest 0
 -- The entry that fields are.
 unfoldable pub entry_of : Fields → Entry
 entry_of f =
-    if is_null f then Null else
-    if is_sale f then Sale f.pass f.rides f.day else
-    if is_boarding f then Boarding f.pass f.day f.scan else
+    when is_null f then Null else
+    when is_sale f then Sale f.pass f.rides f.day else
+    when is_boarding f then Boarding f.pass f.day f.scan else
     Malformed
 
 -- The entry that bytes are; malformed where they are not 16.

@@ -8,7 +8,7 @@ use Rattle.std.specs.Prelude.{ℕ, ◌%◌, ◌≡◌, Bool, ◌&&◌, List, [],
 use Rattle.std.proofs.lemmas.List.Edits.{sets}
 use Rattle.numbers.specs.BigEndian.{to_bytes, bytes_at, number_at, with_number_at}
 use Rattle.basics.specs.declared.Verdict.TheVariants.{Done}
-use Rattle.basics.specs.Ladder.{if◌then◌else◌, need◌or◌then◌}
+use Rattle.basics.specs.Ladder.{when◌then◌else◌, need◌or◌then◌}
 use Rattle.basics.specs.Outcome.{Outcome, outcome}
 use Rattle.basics.specs.Verdict.{verdict_number}
 use Rattle.wire.specs.Packet.{packet_length}
@@ -52,7 +52,7 @@ pseudo_header f = bytes_at f 26 8 ++ (0 ∷ protocol ∷ []) ++ to_bytes 2 udp_l
 
 -- A computed checksum of zero is sent as all ones.
 unfoldable pub sent_as : (computed : ℕ) → ℕ
-sent_as computed = if eqb computed 0 then 65535 else computed
+sent_as computed = when eqb computed 0 then 65535 else computed
 
 -- RFC 768: the complement of the sum of the pseudo header, the UDP header, its field taken as zero, and the packet.
 unfoldable pub udp_checksum : (frame : List ℕ) → ℕ
@@ -81,7 +81,7 @@ Passes port f = frame_check port f ≡ verdict_number Done
 
 -- The 78 bytes with both checksums set anew; a frame of another length stays as it was.
 unfoldable pub sealed : (frame : List ℕ) → List ℕ
-sealed f = if eqb (length f) frame_length then with_number_at (with_number_at f 24 2 (ipv4_checksum f)) 40 2 (udp_checksum f) else f
+sealed f = when eqb (length f) frame_length then with_number_at (with_number_at f 24 2 (ipv4_checksum f)) 40 2 (udp_checksum f) else f
 
 -- The call that seals: 21, 22, 24 (UDP length not 44).
 unfoldable pub frame_seal : (frame : List ℕ) → Outcome (List ℕ)

@@ -3,7 +3,7 @@
 use Rattle.std.specs.Prelude.{ℕ, ◌+◌, ◌-◌, ◌/◌, ◌%◌, ◌^◌, ◌≤◌, ◌<◌, ◌≡◌, false, List, [], ◌∷◌, ◌↔◌, eqb, length, get_or, set}
 use Rattle.numbers.specs.BigEndian.{number_at, Bytes}
 use Rattle.basics.specs.declared.Verdict.TheVariants.{Done}
-use Rattle.basics.specs.Ladder.{if◌then◌else◌}
+use Rattle.basics.specs.Ladder.{when◌then◌else◌}
 use Rattle.basics.specs.Verdict.{verdict_number, is_verdict}
 use Rattle.wire.specs.Packet.{packet_length}
 use Rattle.player.specs.Promises.{OneOf}
@@ -43,7 +43,7 @@ ByteRefused = (port : ℕ) (frame : List ℕ) → Bytes frame → Passes port fr
 
 -- A byte with one of its bits the other way.
 unfoldable pub flipped : (bit byte : ℕ) → ℕ
-flipped bit byte = if eqb (byte / 2 ^ bit % 2) 0 then byte + 2 ^ bit else byte - 2 ^ bit
+flipped bit byte = when eqb (byte / 2 ^ bit % 2) 0 then byte + 2 ^ bit else byte - 2 ^ bit
 
 -- "Flip one bit in the IPv4 addresses, UDP header or packet of a frame that passes 21 to 25: it is refused."
 abbrev pub FlipRefused : Type 0

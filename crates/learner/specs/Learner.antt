@@ -6,7 +6,7 @@ use Rattle.basics.specs.declared.Place.{Place}
 use Rattle.basics.specs.declared.Place.TheVariants.{At, Nowhere}
 use Rattle.basics.specs.declared.Value.{Value}
 use Rattle.basics.specs.declared.Verdict.TheVariants.{Done, NotYet}
-use Rattle.basics.specs.Ladder.{if◌then◌else◌, need◌or◌then◌}
+use Rattle.basics.specs.Ladder.{when◌then◌else◌, need◌or◌then◌}
 use Rattle.basics.specs.Outcome.{Outcome, outcome, Lent}
 use Rattle.basics.specs.Places.{placed}
 use Rattle.basics.specs.Verdict.{verdict_number}
@@ -46,7 +46,7 @@ learner_step s = step (learner s)
 unfoldable pub answer_of_cell : (M : ℕ) → Cell → Answer
 answer_of_cell M c =
     need possible M c or answers.Refused 17 then
-    if is_decided M c then answers.Decided (value_of M c) else answers.NotYet
+    when is_decided M c then answers.Decided (value_of M c) else answers.NotYet
 
 unfoldable pub answer_at : (M : ℕ) → Tables → Place → Answer
 answer_at M t (At index) = answer_of_cell M (cell_at t index)

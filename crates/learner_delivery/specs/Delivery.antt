@@ -5,7 +5,7 @@ use Rattle.numbers.specs.BigEndian.{to_bytes}
 use Rattle.numbers.specs.Fronts.{with_front}
 use Rattle.basics.specs.declared.Value.{Value}
 use Rattle.basics.specs.declared.Verdict.TheVariants.{Done}
-use Rattle.basics.specs.Ladder.{if◌then◌else◌, need◌or◌then◌}
+use Rattle.basics.specs.Ladder.{when◌then◌else◌, need◌or◌then◌}
 use Rattle.basics.specs.Outcome.{Outcome, outcome, Lent, lent}
 use Rattle.basics.specs.Verdict.{verdict_number}
 use Rattle.player.specs.Step.{unchanged}
@@ -17,7 +17,7 @@ use Rattle.learner_tables.specs.Tables.{Tables, learner_allowed, cells, all_poss
 -- The delivered list holds the values of instances 0, 1, .. before the first undecided.
 unfoldable pub delivered : (M : ℕ) → List Cell → List Value
 delivered M [] = []
-delivered M (c ∷ cs) = if is_decided M c then value_of M c ∷ delivered M cs else []
+delivered M (c ∷ cs) = when is_decided M c then value_of M c ∷ delivered M cs else []
 
 -- Values as bytes, 16 each.
 unfoldable pub value_bytes : List Value → List ℕ

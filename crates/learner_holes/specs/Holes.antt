@@ -2,7 +2,7 @@
 -- Assumes nothing.
 use Rattle.std.specs.Prelude.{ℕ, ◌+◌, Bool, not, ◌&&◌, ◌||◌, List, [], ◌∷◌, ltb}
 use Rattle.basics.specs.declared.Verdict.TheVariants.{Done, NoHole}
-use Rattle.basics.specs.Ladder.{if◌then◌else◌, need◌or◌then◌}
+use Rattle.basics.specs.Ladder.{when◌then◌else◌, need◌or◌then◌}
 use Rattle.basics.specs.Outcome.{Outcome, outcome}
 use Rattle.basics.specs.Rounds.{the_instance}
 use Rattle.basics.specs.Verdict.{verdict_number}
@@ -16,7 +16,7 @@ use Rattle.learner_holes.specs.declared.Hole.TheVariants as holes
 -- One past the highest decided instance of cells that begin with this number; `end` where none of them is decided.
 unfoldable pub decided_end_from : (M number end : ℕ) → List Cell → ℕ
 decided_end_from M number end [] = end
-decided_end_from M number end (c ∷ cs) = decided_end_from M (number + 1) (if is_decided M c then number + 1 else end) cs
+decided_end_from M number end (c ∷ cs) = decided_end_from M (number + 1) (when is_decided M c then number + 1 else end) cs
 
 -- One past the highest decided instance; 0 where none is decided.
 abbrev pub decided_end : (M : ℕ) → List Cell → ℕ
@@ -29,7 +29,7 @@ is_hole M end number c = not (is_decided M c) && (ltb number end || has_vote c)
 -- The walk over instances stops at the first hole, answered as its number, or "none".
 unfoldable pub first_hole_from : (M end number : ℕ) → List Cell → Hole
 first_hole_from M end number [] = holes.NoHole
-first_hole_from M end number (c ∷ cs) = if is_hole M end number c then holes.Found (the_instance number) else first_hole_from M end (number + 1) cs
+first_hole_from M end number (c ∷ cs) = when is_hole M end number c then holes.Found (the_instance number) else first_hole_from M end (number + 1) cs
 
 abbrev pub first_hole : (M : ℕ) → List Cell → Hole
 first_hole M cs = first_hole_from M (decided_end M cs) 0 cs

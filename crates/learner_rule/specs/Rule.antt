@@ -4,7 +4,7 @@ use Rattle.std.specs.Prelude.{ℕ, not, ltb}
 use Rattle.basics.specs.declared.Round.{Round}
 use Rattle.basics.specs.declared.Value.{Value}
 use Rattle.basics.specs.declared.Verdict.TheVariants.{Hold, Decided}
-use Rattle.basics.specs.Ladder.{if◌then◌else◌, need◌or◌then◌}
+use Rattle.basics.specs.Ladder.{when◌then◌else◌, need◌or◌then◌}
 use Rattle.basics.specs.Rounds.{same_round, at_most}
 use Rattle.basics.specs.Values.{same_value}
 use Rattle.player.specs.Step.{Ruling, refused, counts}
@@ -16,7 +16,7 @@ use Rattle.learner_rule.specs.declared.Ruled.TheVariants as answers
 
 -- Hold, or decided on the vote that reaches majority.
 unfoldable pub hold_or_decide : (M : ℕ) → Cell → Ruling Cell
-hold_or_decide M c = if is_decided M c then counts Decided c else counts Hold c
+hold_or_decide M c = when is_decided M c then counts Decided c else counts Hold c
 
 -- One of the same round and value adds its voter. 13, 15.
 unfoldable pub add_voter : (M : ℕ) → Cell → (sender : ℕ) → Round → Value → Ruling Cell
@@ -32,7 +32,7 @@ count_vote M c sender round value =
     need possible M c or refused 17 then
     need not (is_decided M c) or refused 14 then
     need at_most c.round round or refused 10 then
-    if same_round round c.round then add_voter M c sender round value else hold_or_decide M (with_voter 0 sender round value)
+    when same_round round c.round then add_voter M c sender round value else hold_or_decide M (with_voter 0 sender round value)
 
 -- What each answer of the code comes to.
 abbrev pub ruling_of : Ruled → Ruling Cell

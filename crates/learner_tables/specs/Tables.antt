@@ -1,6 +1,6 @@
 -- A learner's lent tables: the rounds, the sets of voters and the values of its cells, one cell for each instance.
 -- Assumes nothing.
-use Rattle.std.specs.Prelude.{ℕ, ◌+◌, ◌*◌, ◌^◌, ◌<◌, ◌≡◌, Bool, ◌&&◌, List, eqb, length, set, replicate}
+use Rattle.std.specs.Prelude.{ℕ, ◌+◌, ◌*◌, ◌^◌, ◌<◌, ◌≡◌, Bool, ◌&&◌, List, eqb, length, replicate}
 use Rattle.basics.specs.Outcome.{Outcome}
 use Rattle.basics.specs.Rounds.{none}
 use Rattle.columns.specs.Columns.{round_at, with_round, byte_at, with_byte, value_at, with_value, Below}

@@ -1,7 +1,7 @@
 -- The ledger's call on its lent table, and a list replayed by it, entry after entry.
 -- Assumes nothing.
 use Rattle.std.specs.Prelude.{ℕ, List, [], ◌∷◌}
-use Rattle.basics.specs.Ladder.{if◌then◌else◌, need◌or◌then◌}
+use Rattle.basics.specs.Ladder.{when◌then◌else◌, need◌or◌then◌}
 use Rattle.basics.specs.Outcome.{Outcome, outcome}
 use Rattle.entries.specs.declared.Entry.{Entry}
 use Rattle.entries.specs.Entry.{entry_in}
@@ -37,4 +37,4 @@ unfoldable pub accepted : Table → (values : List (List ℕ)) → List Entry
 accepted t [] = []
 accepted t (v ∷ vs) =
     let later = accepted (enter v t).left vs in
-    if is_accepted (enter v t).answer then entry_in v ∷ later else later
+    when is_accepted (enter v t).answer then entry_in v ∷ later else later

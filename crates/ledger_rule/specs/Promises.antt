@@ -1,7 +1,7 @@
 -- What is promised of the rule, of any passes and any entry: no ride is made or lost, on any one pass and on all together.
 -- Assumes nothing.
 use Rattle.std.specs.Prelude.{ℕ, ◌+◌, ◌≡◌, List, [], ◌∷◌}
-use Rattle.basics.specs.Ladder.{if◌then◌else◌}
+use Rattle.basics.specs.Ladder.{when◌then◌else◌}
 use Rattle.entries.specs.declared.Entry.{Entry}
 use Rattle.passes.specs.declared.Pass.{Pass}
 use Rattle.ledger_rule.specs.Rule.{rule}
@@ -9,7 +9,7 @@ use Rattle.ledger_rule.specs.Sums.{is_accepted, rides_sold, boardings, of_pass, 
 
 -- The entry, where it is accepted.
 abbrev pub accepted_of : List Pass → Entry → List Entry
-accepted_of ps e = if is_accepted (rule ps e).answer then e ∷ [] else []
+accepted_of ps e = when is_accepted (rule ps e).answer then e ∷ [] else []
 
 -- Rides left before and rides sold are boardings and rides left after: for each pass,
 abbrev pub RuleConservesEach : Type 0

@@ -1,7 +1,7 @@
 -- What entries and passes come to: the rides of sales, the boardings, and the rides left, of all and of one pass.
 -- Assumes nothing.
 use Rattle.std.specs.Prelude.{ℕ, ◌+◌, Bool, false, ◌||◌, List, [], ◌∷◌, eqb}
-use Rattle.basics.specs.Ladder.{if◌then◌else◌}
+use Rattle.basics.specs.Ladder.{when◌then◌else◌}
 use Rattle.entries.specs.declared.Entry.{Entry}
 use Rattle.entries.specs.declared.Entry.TheVariants.{Null, Malformed, Sale, Boarding}
 use Rattle.passes.specs.declared.Pass.{Pass}
@@ -45,7 +45,7 @@ boardings (e ∷ es) = boardings_of e + boardings es
 -- The entries that speak of a pass.
 unfoldable pub of_pass : (number : ℕ) → List Entry → List Entry
 of_pass number [] = []
-of_pass number (e ∷ es) = if is_of number e then e ∷ of_pass number es else of_pass number es
+of_pass number (e ∷ es) = when is_of number e then e ∷ of_pass number es else of_pass number es
 
 -- ---- of passes
 
@@ -57,4 +57,4 @@ all_left (p ∷ ps) = p.rides_left + all_left ps
 -- On the pass with this number; 0 where it is not known.
 unfoldable pub left_on : (number : ℕ) → List Pass → ℕ
 left_on number [] = 0
-left_on number (p ∷ ps) = if eqb p.number number then p.rides_left else left_on number ps
+left_on number (p ∷ ps) = when eqb p.number number then p.rides_left else left_on number ps

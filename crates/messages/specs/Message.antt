@@ -5,7 +5,7 @@ use Rattle.std.specs.Prelude.{ℕ, eqb}
 use Rattle.basics.specs.declared.Instance.{Instance}
 use Rattle.basics.specs.declared.Round.{Round}
 use Rattle.basics.specs.declared.Value.{Value}
-use Rattle.basics.specs.Ladder.{if◌then◌else◌}
+use Rattle.basics.specs.Ladder.{when◌then◌else◌}
 use Rattle.basics.specs.Rounds.{the_instance, the_round, none, owner_of}
 use Rattle.basics.specs.Values.{null}
 use Rattle.messages.specs.declared.Fields.{Fields}
@@ -18,10 +18,10 @@ fields k s i r b v = record { kind = k; switch = s; instance = i; round = r; vot
 -- The message that fields are.
 unfoldable pub message_of : Fields → Message
 message_of f =
-    if eqb f.kind 0 then Request f.switch f.value else
-    if eqb f.kind 1 then Prepare f.instance f.round else
-    if eqb f.kind 2 then Promise f.switch f.instance f.round f.vote_round f.value else
-    if eqb f.kind 3 then Propose f.instance f.round f.value else
+    when eqb f.kind 0 then Request f.switch f.value else
+    when eqb f.kind 1 then Prepare f.instance f.round else
+    when eqb f.kind 2 then Promise f.switch f.instance f.round f.vote_round f.value else
+    when eqb f.kind 3 then Propose f.instance f.round f.value else
     Vote f.switch f.instance f.round f.value
 
 -- The fields that a message is: what its row fixes is put back.

@@ -1,7 +1,7 @@
 -- The packet table, a row for each type, its columns in byte order. A row says of each column whether the fields keep it.
 -- Assumes nothing.
 use Rattle.std.specs.Prelude.{Bool, true, false, not, ◌&&◌, ◌||◌, eqb, leb}
-use Rattle.basics.specs.Ladder.{if◌then◌else◌}
+use Rattle.basics.specs.Ladder.{when◌then◌else◌}
 use Rattle.basics.specs.Rounds.{the_round, is_none, nobody, owner_of, owned_or_0, owned_not_0, at_most, same_round}
 use Rattle.basics.specs.Values.{is_null}
 use Rattle.messages.specs.declared.Fields.{Fields}
@@ -49,11 +49,11 @@ vote_row f = row (by_acceptor f) any (owned_or_0 f.round) (same_round f.vote_rou
 -- The row of the type. No row has a type above 4.
 unfoldable pub table_row : Fields → Row
 table_row f =
-    if eqb f.kind 0 then request_row f else
-    if eqb f.kind 1 then prepare_row f else
-    if eqb f.kind 2 then promise_row f else
-    if eqb f.kind 3 then propose_row f else
-    if eqb f.kind 4 then vote_row f else
+    when eqb f.kind 0 then request_row f else
+    when eqb f.kind 1 then prepare_row f else
+    when eqb f.kind 2 then promise_row f else
+    when eqb f.kind 3 then propose_row f else
+    when eqb f.kind 4 then vote_row f else
     row false false false false false
 
 abbrev pub all_kept : Row → Bool

@@ -3,7 +3,7 @@
 -- Assumes nothing.
 use Rattle.std.specs.Prelude.{ℕ, ◌+◌, ◌≡◌, Bool, true, false, not, ◌&&◌, ◌||◌, List, [], ◌∷◌, map, eqb, leb, length, get_or, set}
 use Rattle.numbers.specs.Fronts.{with_front}
-use Rattle.basics.specs.Ladder.{if◌then◌else◌}
+use Rattle.basics.specs.Ladder.{when◌then◌else◌}
 use Rattle.columns.specs.Walks.{cells_from, every}
 use Rattle.entries.specs.Entry.{most_rides}
 use Rattle.passes.specs.declared.Pass.{Pass}
@@ -71,7 +71,7 @@ among number (n ∷ ns) = eqb n number || among number ns
 -- The first place of a number; their count where it is not among them.
 unfoldable pub place_of : (number : ℕ) → (numbers : List ℕ) → ℕ
 place_of number [] = 0
-place_of number (n ∷ ns) = if eqb n number then 0 else place_of number ns + 1
+place_of number (n ∷ ns) = when eqb n number then 0 else place_of number ns + 1
 
 -- "a pass twice"
 unfoldable pub twice : (numbers : List ℕ) → Bool

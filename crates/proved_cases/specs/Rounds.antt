@@ -3,7 +3,7 @@
 -- Assumes nothing.
 use Rattle.std.specs.Prelude.{ℕ, ◌≡◌, List, [], ◌∷◌, map, eqb, get_or, replicate}
 use Rattle.basics.specs.declared.Verdict.TheVariants.{ToAcceptors}
-use Rattle.basics.specs.Ladder.{if◌then◌else◌}
+use Rattle.basics.specs.Ladder.{when◌then◌else◌}
 use Rattle.basics.specs.Rounds.{the_instance, the_round, nobody, owner_of}
 use Rattle.basics.specs.Values.{the_value}
 use Rattle.basics.specs.Verdict.{verdict_number}
@@ -41,7 +41,7 @@ rows =
 abbrev next : (own floor : ℕ) → ℕ
 next own floor =
     let started = backup_start (settings 3 8) own (the_instance 0) floor (the_value 0 0x2a) (replicate 36 0) (fresh_tables 8) in
-    if eqb started.answer (verdict_number ToAcceptors) then get_or started.left.tables.rounds 0 0 else started.answer
+    when eqb started.answer (verdict_number ToAcceptors) then get_or started.left.tables.rounds 0 0 else started.answer
 
 -- Each row is what the definitions give for its number.
 abbrev pub RoundCases : Type 0

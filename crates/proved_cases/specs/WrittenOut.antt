@@ -148,10 +148,10 @@ saved =
 
 pub record WrittenOut : Type 0 where
   -- tables set fresh, whatever they held; 7 where M is 4, N is 1 of tables for 2, or the record has two numbers
-  pub primary_fresh : primary_fresh (settings 3 2) (2 ∷ []) ≡ outcome 106 (0 ∷ [])
-  pub acceptor_fresh : acceptor_fresh (settings 3 2) voted ≡ outcome 106 never_voted
-  pub backup_fresh : backup_fresh (settings 3 2) proposed ≡ outcome 106 idle
-  pub learner_fresh : learner_fresh (settings 3 2) decided ≡ outcome 106 unheard
+  pub primary_made_fresh : primary_fresh (settings 3 2) (2 ∷ []) ≡ outcome 106 (0 ∷ [])
+  pub acceptor_made_fresh : acceptor_fresh (settings 3 2) voted ≡ outcome 106 never_voted
+  pub backup_made_fresh : backup_fresh (settings 3 2) proposed ≡ outcome 106 idle
+  pub learner_made_fresh : learner_fresh (settings 3 2) decided ≡ outcome 106 unheard
   pub primary_not_fresh : primary_fresh (settings 3 2) (2 ∷ 3 ∷ []) ≡ outcome 7 (2 ∷ 3 ∷ [])
   pub acceptor_not_fresh : acceptor_fresh (settings 4 2) voted ≡ outcome 7 voted
   pub backup_not_fresh : backup_fresh (settings 3 1) proposed ≡ outcome 7 proposed
@@ -178,7 +178,7 @@ pub record WrittenOut : Type 0 where
   pub table_read : read_saved (settings 3 2) saved unheard ≡ outcome 106 (lent saved heard)
   -- the fields of packets, there and back
   pub fields_written : map (λ f. packet_write f (replicate 36 0)) packet_fields ≡ map (outcome 106) packets
-  pub fields_read : map (λ p. packet_read p some_fields) packets ≡ map (outcome 106) packet_fields
+  pub fields_as_read : map (λ p. packet_read p some_fields) packets ≡ map (outcome 106) packet_fields
   pub null_not_written : packet_write (numbered 0 9 0 0 4_294_967_295 0 0) vote ≡ outcome 5 vote
   pub null_not_read : packet_read null_request some_fields ≡ outcome 5 some_fields
   -- null is never requested: 5; with an empty set, best is none: 17

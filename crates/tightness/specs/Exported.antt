@@ -108,7 +108,7 @@ pub record ExportedCalls : Type 2 where
   pub of_primary_step : Does primary-step.Learnt λ _ (M, (N, (packet, (next, _)))) answer (_, (_, (packet', (next', _)))).
       outcome answer (lent packet'.now next'.now)
       ≡ primary_step (settings M N) packet.now next.now
-  -- The call on a record lent by reference is proved by hand: its contract states `requested`. It steps as the slice of one number does (`SliceIsTheRecord` of primary).
+  -- The contract of the call on a record lent by reference states `requested`. It steps as the slice of one number does (`SliceIsTheRecord` of primary).
   pub of_primary_request : {M : Type 1} {𝓤 : Ura M} (𝓛 : Logic 𝓤) (mem : Memory → SProp 𝓤) (run : Routine → Fun 𝓤)
       (κs : Lfts 2) (entry : Args primary-request.signature κs) (answer : Res primary-request.signature κs) (exit : AtExit primary-request.ended κs)
       → (primary-request.clauses 𝓛 mem run κs entry).ensures tt answer exit ≡ fact 𝓤 (requested κs entry answer exit)

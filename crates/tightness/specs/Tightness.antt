@@ -3,7 +3,7 @@
 -- Assumes nothing.
 use Rattle.std.specs.Prelude.{◌≡◌}
 use contract.Lifetimes.{Lfts}
-use Rattle.std.specs.Borrow.{Bor}
+use Rattle.std.specs.Borrow.{MutBor}
 use denote.Triple.Clauses.{AtExit}
 use denote.Triple.Entry.{Args, Res}
 use Rattle.basics.specs.Outcome.{outcome, lent}
@@ -141,28 +141,28 @@ OneContent {Lifetimes} {Entry} {Answer} {Exit} promise held =
     → held κs exit ≡ held κs exit'
 
 -- The content of the first of the parameters, of the first two, ..
-abbrev pub held_1 : {A Rest : Type 0} → Bor A × Rest → A
+abbrev pub held_1 : {A Rest : Type 0} → MutBor A × Rest → A
 held_1 lent = lent.0.now
 
-abbrev pub held_2 : {A B Rest : Type 0} → Bor A × (Bor B × Rest) → A × B
+abbrev pub held_2 : {A B Rest : Type 0} → MutBor A × (MutBor B × Rest) → A × B
 held_2 lent = (lent.0.now, lent.1.0.now)
 
-abbrev pub held_3 : {A B C Rest : Type 0} → Bor A × (Bor B × (Bor C × Rest)) → A × B × C
+abbrev pub held_3 : {A B C Rest : Type 0} → MutBor A × (MutBor B × (MutBor C × Rest)) → A × B × C
 held_3 lent = (lent.0.now, lent.1.0.now, lent.1.1.0.now)
 
-abbrev pub held_4 : {A B C D Rest : Type 0} → Bor A × (Bor B × (Bor C × (Bor D × Rest))) → A × B × C × D
+abbrev pub held_4 : {A B C D Rest : Type 0} → MutBor A × (MutBor B × (MutBor C × (MutBor D × Rest))) → A × B × C × D
 held_4 lent = (lent.0.now, lent.1.0.now, lent.1.1.0.now, lent.1.1.1.0.now)
 
-abbrev pub held_5 : {A B C D E Rest : Type 0} → Bor A × (Bor B × (Bor C × (Bor D × (Bor E × Rest)))) → A × B × C × D × E
+abbrev pub held_5 : {A B C D E Rest : Type 0} → MutBor A × (MutBor B × (MutBor C × (MutBor D × (MutBor E × Rest)))) → A × B × C × D × E
 held_5 lent = (lent.0.now, lent.1.0.now, lent.1.1.0.now, lent.1.1.1.0.now, lent.1.1.1.1.0.now)
 
-abbrev pub held_6 : {A B C D E F Rest : Type 0} → Bor A × (Bor B × (Bor C × (Bor D × (Bor E × (Bor F × Rest))))) → A × B × C × D × E × F
+abbrev pub held_6 : {A B C D E F Rest : Type 0} → MutBor A × (MutBor B × (MutBor C × (MutBor D × (MutBor E × (MutBor F × Rest))))) → A × B × C × D × E × F
 held_6 lent = (lent.0.now, lent.1.0.now, lent.1.1.0.now, lent.1.1.1.0.now, lent.1.1.1.1.0.now, lent.1.1.1.1.1.0.now)
 
-abbrev pub held_7 : {A B C D E F G Rest : Type 0} → Bor A × (Bor B × (Bor C × (Bor D × (Bor E × (Bor F × (Bor G × Rest)))))) → A × (B × C × D × E × F × G)
+abbrev pub held_7 : {A B C D E F G Rest : Type 0} → MutBor A × (MutBor B × (MutBor C × (MutBor D × (MutBor E × (MutBor F × (MutBor G × Rest)))))) → A × (B × C × D × E × F × G)
 held_7 lent = (lent.0.now, held_6 lent.1)
 
--- The call on a record lent by reference is proved by hand, and the checker reads no such promise off it. This is what its contract states (`of_primary_request` of `ExportedCalls`).
+-- What the contract of the call on a record lent by reference states (`of_primary_request` of `ExportedCalls`).
 abbrev pub requested : (κs : Lfts 2) → Args primary-request.signature κs → Res primary-request.signature κs → AtExit primary-request.ended κs → Type 0
 requested κs entry answer exit =
     outcome answer (lent exit.1.1.0.now exit.1.1.1.0.now)

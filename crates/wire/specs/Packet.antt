@@ -3,7 +3,7 @@
 -- Assumes nothing.
 use Rattle.std.specs.Prelude.{ℕ, ◌≡◌, List, [], ◌∷◌, ◌++◌, Bool, true, ◌&&◌, eqb, leb, length, get_or}
 use Rattle.numbers.specs.BigEndian.{number_at, to_bytes}
-use Rattle.basics.specs.Ladder.{if◌then◌else◌, need◌or◌then◌}
+use Rattle.basics.specs.Ladder.{when◌then◌else◌, need◌or◌then◌}
 use Rattle.basics.specs.Rounds.{the_instance, the_round}
 use Rattle.basics.specs.declared.Verdict.TheVariants.{Done}
 use Rattle.basics.specs.Verdict.{verdict_number}
@@ -70,7 +70,7 @@ packet_of m = packet_with (fields_of m)
 
 -- What 36 bytes hold once a message is put in their place; a packet of another length stays as it was.
 unfoldable pub with_message : List ℕ → Message → List ℕ
-with_message p m = if eqb (length p) packet_length then packet_of m else p
+with_message p m = when eqb (length p) packet_length then packet_of m else p
 
 -- What writing answers, and what the packet holds then: refused by 1 where the packet has another length, by 5 where the fields break the table.
 unfoldable pub write_fields : Fields → List ℕ → Outcome (List ℕ)
