@@ -2,7 +2,7 @@
 -- Assumes nothing.
 use Rattle.std.proofs.Common.{◌≡◌, Bool, true, false, ◌&&◌, ◌||◌, ◌⊎◌, refl, inl, inr}
 use mathlib.Core.Bool.{false≢true}
-use Rattle.basics.specs.Ladder.{if◌then◌else◌, need◌or◌then◌}
+use Rattle.basics.specs.Ladder.{when◌then◌else◌, need◌or◌then◌}
 
 -- what a test came to, with the equation kept
 pub by-test : {P : Type 0} (b : Bool) → (b ≡ true → P) → (b ≡ false → P) → P
@@ -10,17 +10,17 @@ by-test true yea nay = yea refl
 by-test false yea nay = nay refl
 
 -- what holds of both branches, each with its outcome of the test, holds of the choice
-pub if-elim : {A : Type 0} (P : A → Type 0) (b : Bool) (x y : A) → (b ≡ true → P x) → (b ≡ false → P y) → P (if b then x else y)
-unfolding if◌then◌else◌
+pub if-elim : {A : Type 0} (P : A → Type 0) (b : Bool) (x y : A) → (b ≡ true → P x) → (b ≡ false → P y) → P (when b then x else y)
+unfolding when◌then◌else◌
 if-elim P true x y yea nay = yea refl
 if-elim P false x y yea nay = nay refl
 
-pub if-true : {A : Type 0} {b : Bool} (x y : A) → b ≡ true → (if b then x else y) ≡ x
-unfolding if◌then◌else◌
+pub if-true : {A : Type 0} {b : Bool} (x y : A) → b ≡ true → (when b then x else y) ≡ x
+unfolding when◌then◌else◌
 if-true x y e = rw e
 
-pub if-false : {A : Type 0} {b : Bool} (x y : A) → b ≡ false → (if b then x else y) ≡ y
-unfolding if◌then◌else◌
+pub if-false : {A : Type 0} {b : Bool} (x y : A) → b ≡ false → (when b then x else y) ≡ y
+unfolding when◌then◌else◌
 if-false x y e = rw e
 
 -- what holds of the refusal, and of what is behind the test if it passes, holds of the ladder

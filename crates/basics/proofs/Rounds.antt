@@ -4,7 +4,7 @@ use Rattle.std.proofs.Common.{◌≡◌, ℕ, suc, ◌+◌, ◌%◌, ◌<◌, �
 use mathlib.Core.Bool.{false≢true}
 use borrow.Author.Tests.{eqb-false}
 use Rattle.basics.specs.declared.Round.{Round}
-use Rattle.basics.specs.Ladder.{if◌then◌else◌}
+use Rattle.basics.specs.Ladder.{when◌then◌else◌}
 use Rattle.basics.specs.Rounds.{the_round, none, is_none, owner_of, owned_or_0, owned_not_0, rank, at_most}
 use Rattle.basics.proofs.Ladder.{by-test, if-true, if-false, both_true, if-elim, and-true}
 
@@ -38,12 +38,12 @@ owned-or-0 r e = (both_true (leb 1 (owner_of r)) (leb (owner_of r) 3) e).1
 
 -- round 0 is the primary's
 pub zero-owned : owned_or_0 (the_round 0) ≡ true
-unfolding owned_or_0 owner_of if◌then◌else◌
+unfolding owned_or_0 owner_of when◌then◌else◌
 zero-owned = refl
 
 -- none is no round
 pub none-unowned : (r : Round) → is_none r ≡ true → owned_or_0 r ≡ false
-unfolding owned_or_0 owner_of if◌then◌else◌
+unfolding owned_or_0 owner_of when◌then◌else◌
 none-unowned r e = let same : r ≡ none = λ i. the_round (eqb-true r.0 4294967295 e i) in ap owned_or_0 same
 
 -- what has an owner is not none
@@ -57,7 +57,7 @@ at_least a r owned e = omega (arith, leb-true (rank a) (rank r) e, rank-some a (
 
 -- a backup's rounds are those with its remainder by 4, but for none
 pub owner-is : (r : Round) (own : ℕ) → 1 ≤ own → r.0 < 4294967295 → r.0 % 4 ≡ own → owner_of r ≡ own
-unfolding owner_of if◌then◌else◌
+unfolding owner_of when◌then◌else◌
 owner-is r own least below remainder =
     rw (ne_eqb r.0 0 (λ e. omega (arith, e, remainder)), ne_eqb r.0 4294967295 (λ e. omega (arith, e)), ne_eqb (r.0 % 4) 0 (λ e. omega (arith, e, remainder))) remainder
 

@@ -2,10 +2,9 @@
 -- Assumes nothing.
 use Prim.Native.Nat.{ℕ}
 use mathlib.Core.Path.{◌≡◌, refl}
-use mathlib.Core.Bool.{Bool, true, false, not, false≢true}
+use mathlib.Core.Bool.{Bool, true, false, false≢true}
 use mathlib.Core.Logic.{◌⊎◌, inl, inr, ◌↔◌}
 use native.Mathlib.Omega.{arith}
-use borrow.Author.Tests.{not-true, not-false}
 use Rattle.basics.specs.declared.Verdict.TheVariants.{Done}
 use Rattle.basics.specs.Ladder.{need◌or◌then◌}
 use Rattle.basics.specs.Outcome.{Outcome, outcome}
@@ -15,13 +14,13 @@ use Rattle.columns.specs.Fresh.{set_fresh, SetsFresh}
 -- ---- the ways out
 
 module _ {Tables : Type 0} {allowed fine : Bool} (before fresh : Tables) (fine-so : fine ≡ allowed) where
-  pub fresh-refused : not fine ≡ true → outcome 7 before ≡ set_fresh allowed before fresh
+  pub fresh-refused : fine ≡ false → outcome 7 before ≡ set_fresh allowed before fresh
   unfolding set_fresh need◌or◌then◌
-  fresh-refused no_way = rw (← fine-so, not-true fine no_way)
+  fresh-refused no_way = rw (← fine-so, no_way)
 
-  pub fresh-done : not fine ≡ false → {answer : ℕ} {after : Tables} → answer ≡ verdict_number Done → after ≡ fresh → outcome answer after ≡ set_fresh allowed before fresh
+  pub fresh-done : fine ≡ true → {answer : ℕ} {after : Tables} → answer ≡ verdict_number Done → after ≡ fresh → outcome answer after ≡ set_fresh allowed before fresh
   unfolding set_fresh need◌or◌then◌
-  fresh-done passed answer-so after-so = rw (← fine-so, not-false fine passed, answer-so, after-so)
+  fresh-done passed answer-so after-so = rw (← fine-so, passed, answer-so, after-so)
 
 -- ---- what is promised
 

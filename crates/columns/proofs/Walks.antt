@@ -2,13 +2,12 @@
 -- Assumes nothing.
 use Prim.Native.Nat.{ℕ, zero, suc, ◌+◌, ◌-◌, ◌≤◌, ◌<◌}
 use mathlib.Core.Path.{◌≡◌, refl, sym, ap, ◌∙◌, subst}
-use mathlib.Core.Bool.{Bool, true, false, not}
+use mathlib.Core.Bool.{Bool, true, false}
 use mathlib.Core.List.{List, [], ◌∷◌}
 use lib.ListN.{length, get_or}
 use native.Mathlib.Decide.{ℕ_discrete}
 use native.Mathlib.Omega.{arith}
 use native.Mathlib.Numerals.{add-one}
-use borrow.Author.Tests.{not-true, not-false}
 use Rattle.basics.proofs.Ladder.{both_true, and-true}
 use Rattle.columns.specs.Walks.{cells_from, every}
 
@@ -55,13 +54,13 @@ module _ {Cell : Type 0} (cell_at : ℕ → Cell) where
     module _ (index count : ℕ) where
       -- the walk that judges every cell goes on from one that passes, and ends at one that does not
       module _ (inside : index < count) (c : Cell) (c-so : c ≡ cell_at index) (fine : Bool) (fine-so : fine ≡ test c) where
-        pub every-next : not fine ≡ false → every test (cells_left index count) ≡ every test (cells_left (index + 1) count)
+        pub every-next : fine ≡ true → every test (cells_left index count) ≡ every test (cells_left (index + 1) count)
         unfolding every
-        every-next passes = rw (cells-next index count inside, ← c-so, ← fine-so, not-false fine passes)
+        every-next passes = rw (cells-next index count inside, ← c-so, ← fine-so, passes)
 
-        pub every-stops : not fine ≡ true → false ≡ every test (cells_left index count)
+        pub every-stops : fine ≡ false → false ≡ every test (cells_left index count)
         unfolding every
-        every-stops fails = rw (cells-next index count inside, ← c-so, ← fine-so, not-true fine fails)
+        every-stops fails = rw (cells-next index count inside, ← c-so, ← fine-so, fails)
 
       pub every-ends : count ≤ index → true ≡ every test (cells_left index count)
       unfolding every

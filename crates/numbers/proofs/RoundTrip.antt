@@ -7,10 +7,10 @@ use mathlib.Core.Bool.{Bool, true, false, cond}
 use native.Mathlib.Numerals.{add-one}
 use native.Mathlib.Omega.{arith}
 use lib.Dec.{leb}
-use lib.ListN.{length, get_or, take, drop}
+use lib.ListN.{length, take, drop}
 use lib.Seq.{sets, sets-eq, length-sets, length-take-le, take_at, drop_at, set-get_or}
 use borrow.Author.Tests.{leb-true}
-use Rattle.numbers.specs.BigEndian.{big_endian, to_bytes, bytes_at, number_at, with_number_at, Bytes}
+use Rattle.numbers.specs.BigEndian.{big_endian, to_bytes, bytes_at, number_at, with_number_at}
 use Rattle.numbers.specs.Promises.{WriteThenRead, ReadThenWrite}
 use Rattle.numbers.proofs.Bytes.{number-within, stored-within, length-to_bytes, bytes_at-part, big_endian-to_bytes, to_bytes-number_at}
 

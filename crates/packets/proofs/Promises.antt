@@ -79,9 +79,9 @@ in-range f fits room =
     }
 
 -- fields that keep the table are read as their message
-fields_read : (f : Fields) → InRange f → keeps_table f ≡ true → read_packet (packet_with f) ≡ Read (message_of f)
+reads-fields : (f : Fields) → InRange f → keeps_table f ≡ true → read_packet (packet_with f) ≡ Read (message_of f)
 unfolding packet_of
-fields_read f range kept =
+reads-fields f range kept =
     subst (λ g. InRange g → keeps_table g ≡ true → read_packet (packet_with g) ≡ Read (message_of f)) (fields-of-message f kept) (packet-reads (message_of f)) range kept
 
 -- what is read of a packet that has a message
@@ -101,7 +101,7 @@ write-then-read f before over left fits =
     (λ number _ refuses e. absurd (not_done number refuses (ap (λ o. o.answer) e)))
     (λ room kept e.
     subst (λ p. packet_read p before ≡ outcome (verdict_number Done) f) (ap (λ o. o.left) e)
-    (reads-message (packet_with f) before (message_of f) (fields_read f (in-range f fits room) kept) ∙ ap (outcome (verdict_number Done)) (fields-of-message f kept)))
+    (reads-message (packet_with f) before (message_of f) (reads-fields f (in-range f fits room) kept) ∙ ap (outcome (verdict_number Done)) (fields-of-message f kept)))
 
 pub read-then-write : ReadThenWrite
 unfolding packet_of
@@ -123,7 +123,7 @@ write-promises f packet = record {
   refusal_keeps_all = write-elim f packet (λ o. is_verdict o.answer ≡ false → o.left ≡ packet) (λ _ _ _ _. refl)
       (λ _ _ refuses. absurd (not_done (verdict_number Done) refuses refl));
   done_keeps = λ fits. write-elim f packet (λ o. o.answer ≡ verdict_number Done → Kept o.left) (λ number _ refuses same. absurd (not_done number refuses same))
-      (λ room kept _. read_kept (packet_with f) (message_of f) (fields_read f (in-range f fits room) kept));
+      (λ room kept _. read_kept (packet_with f) (message_of f) (reads-fields f (in-range f fits room) kept));
 }
 
 pub read-promises : (packet : List ℕ) (before : Fields) → ReadPromises packet before

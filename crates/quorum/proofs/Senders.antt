@@ -45,6 +45,7 @@ module _ (acceptors : ℕ) (few : acceptors ≤ 8) where
 
   stands-in : (senders : List ℕ) → ((sender : ℕ) → Mem sender senders → sender < acceptors) → (sender : ℕ) → Mem sender senders → Member sender (sender_set senders)
   unfolding sender_set
+  stands-in [] known sender nowhere = elim nowhere [ ]
   stands-in (first ∷ others) known sender (newest same) = rw same (with-member-in (sender_set others) first (omega (arith, known first (newest refl))))
   stands-in (first ∷ others) known sender (older listed) =
       with-member-keeps (sender_set others) first sender (stands-in others (λ other there. known other (older there)) sender listed)

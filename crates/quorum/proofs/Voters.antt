@@ -11,7 +11,7 @@ use native.Mathlib.Omega.{arith}
 use native.Mathlib.Decide.{ℕ_discrete}
 use lib.Count.{ones}
 use lib.ListN.{length}
-use Rattle.quorum.specs.Quorum.{majority, bit, Member, within, AtLeast}
+use Rattle.quorum.specs.Quorum.{majority, bit, Member, AtLeast}
 use Rattle.quorum.specs.Voters.{Mem, newest, older, Distinct, Names}
 use Rattle.quorum.specs.Promises.{SetIsListed, ListHasSet, ExactList, HalfIff}
 use Rattle.quorum.proofs.Bits.{bit-below-2, ones_below, Added, added}

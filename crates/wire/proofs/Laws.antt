@@ -14,7 +14,7 @@ use Rattle.numbers.proofs.Bytes.{Bytes-append, Bytes-to_bytes, number_at-lt}
 use Rattle.basics.specs.declared.Instance.{Instance}
 use Rattle.basics.specs.declared.Round.{Round}
 use Rattle.basics.specs.declared.Value.{Value}
-use Rattle.basics.specs.Ladder.{if◌then◌else◌}
+use Rattle.basics.specs.Ladder.{when◌then◌else◌}
 use Rattle.basics.specs.Rounds.{is_none, nobody, owner_of, owned_or_0, owned_not_0, at_most}
 use Rattle.basics.specs.Values.{is_null}
 use Rattle.basics.specs.Votes.{is_vote_up_to}
@@ -132,47 +132,47 @@ by-owner : (r : Round) → eqb (owner_of r) nobody || eqb (owner_of r) (owner_of
 by-owner r = or_right (eqb (owner_of r) nobody) (eq-eqb (owner_of r) (owner_of r) refl)
 
 pub request-value : (s : ℕ) (v : Value) → keeps_table (fields_of (Request s v)) ≡ true → not (is_null v) ≡ true
-unfolding table_row request_row fields_of if◌then◌else◌
+unfolding table_row request_row fields_of when◌then◌else◌
 request-value s v k = (columns (fields_of (Request s v)) k).value
 
 pub request-kept : (s : ℕ) (v : Value) → not (is_null v) ≡ true → keeps_table (fields_of (Request s v)) ≡ true
-unfolding keeps_table table_row request_row fields_of if◌then◌else◌
+unfolding keeps_table table_row request_row fields_of when◌then◌else◌
 request-kept s v e = e
 
 pub prepare-owned : (i : Instance) (r : Round) → keeps_table (fields_of (Prepare i r)) ≡ true → owned_not_0 r ≡ true
-unfolding table_row prepare_row fields_of if◌then◌else◌
+unfolding table_row prepare_row fields_of when◌then◌else◌
 prepare-owned i r k = (columns (fields_of (Prepare i r)) k).round
 
 pub prepare-kept : (i : Instance) (r : Round) → owned_not_0 r ≡ true → keeps_table (fields_of (Prepare i r)) ≡ true
-unfolding keeps_table table_row prepare_row fields_of if◌then◌else◌
+unfolding keeps_table table_row prepare_row fields_of when◌then◌else◌
 prepare-kept i r e = and-true (and-true (and-true (and-true (by-owner r) refl) e) refl) refl
 
 pub propose-owned : (i : Instance) (r : Round) (v : Value) → keeps_table (fields_of (Propose i r v)) ≡ true → owned_or_0 r ≡ true
-unfolding table_row propose_row fields_of if◌then◌else◌
+unfolding table_row propose_row fields_of when◌then◌else◌
 propose-owned i r v k = (columns (fields_of (Propose i r v)) k).round
 
 pub propose-kept : (i : Instance) (r : Round) (v : Value) → owned_or_0 r ≡ true → keeps_table (fields_of (Propose i r v)) ≡ true
-unfolding keeps_table table_row propose_row fields_of if◌then◌else◌
+unfolding keeps_table table_row propose_row fields_of when◌then◌else◌
 propose-kept i r v e = and-true (and-true (and-true (and-true (by-owner r) refl) e) refl) refl
 
 pub vote-sender : (s : ℕ) (i : Instance) (r : Round) (v : Value) → keeps_table (fields_of (Vote s i r v)) ≡ true → s ≤ 6
-unfolding table_row vote_row fields_of if◌then◌else◌
+unfolding table_row vote_row fields_of when◌then◌else◌
 vote-sender s i r v k = leb-true s 6 (columns (fields_of (Vote s i r v)) k).switch
 
 pub vote-owned : (s : ℕ) (i : Instance) (r : Round) (v : Value) → keeps_table (fields_of (Vote s i r v)) ≡ true → owned_or_0 r ≡ true
-unfolding table_row vote_row fields_of if◌then◌else◌
+unfolding table_row vote_row fields_of when◌then◌else◌
 vote-owned s i r v k = (columns (fields_of (Vote s i r v)) k).round
 
 pub vote-kept : (s : ℕ) (i : Instance) (r : Round) (v : Value) → s ≤ 6 → owned_or_0 r ≡ true → keeps_table (fields_of (Vote s i r v)) ≡ true
-unfolding keeps_table table_row vote_row fields_of if◌then◌else◌
+unfolding keeps_table table_row vote_row fields_of when◌then◌else◌
 vote-kept s i r v h e = and-true (and-true (and-true (and-true (le-leb s 6 h) refl) e) (eq-eqb r.0 r.0 refl)) refl
 
 pub promise-sender : (s : ℕ) (i : Instance) (r b : Round) (v : Value) → keeps_table (fields_of (Promise s i r b v)) ≡ true → s ≤ 6
-unfolding table_row promise_row fields_of if◌then◌else◌
+unfolding table_row promise_row fields_of when◌then◌else◌
 promise-sender s i r b v k = leb-true s 6 (columns (fields_of (Promise s i r b v)) k).switch
 
 pub promise-owned : (s : ℕ) (i : Instance) (r b : Round) (v : Value) → keeps_table (fields_of (Promise s i r b v)) ≡ true → owned_not_0 r ≡ true
-unfolding table_row promise_row fields_of if◌then◌else◌
+unfolding table_row promise_row fields_of when◌then◌else◌
 promise-owned s i r b v k = (columns (fields_of (Promise s i r b v)) k).round
 
 -- a promise's vote round and value, as two columns and as one test
@@ -191,14 +191,14 @@ value-column true false false low some h = h
 value-column false nothing owned low some h = refl
 
 pub promise-votes : (s : ℕ) (i : Instance) (r b : Round) (v : Value) → keeps_table (fields_of (Promise s i r b v)) ≡ true → is_vote_up_to r b v ≡ true
-unfolding table_row promise_row fields_of is_vote_up_to if◌then◌else◌
+unfolding table_row promise_row fields_of is_vote_up_to when◌then◌else◌
 promise-votes s i r b v k =
     let h = columns (fields_of (Promise s i r b v)) k in
     one-test (is_none b) (is_null v) (owned_or_0 b && at_most b r) h.vote-round h.value
 
 pub promise-kept : (s : ℕ) (i : Instance) (r b : Round) (v : Value) → s ≤ 6 → owned_not_0 r ≡ true → is_vote_up_to r b v ≡ true
     → keeps_table (fields_of (Promise s i r b v)) ≡ true
-unfolding keeps_table table_row promise_row fields_of is_vote_up_to if◌then◌else◌
+unfolding keeps_table table_row promise_row fields_of is_vote_up_to when◌then◌else◌
 promise-kept s i r b v h e k =
     and-true (and-true (and-true (and-true (le-leb s 6 h) refl) e) (vote-round-column (is_none b) (is_null v) (owned_or_0 b && at_most b r) k))
     (value-column (is_none b) (is_null v) (owned_or_0 b) (at_most b r) (owned-some b) k)

@@ -15,7 +15,7 @@ use Rattle.basics.specs.declared.Instance.{Instance}
 use Rattle.basics.specs.declared.Round.{Round}
 use Rattle.basics.specs.declared.Value.{Value}
 use Rattle.basics.specs.declared.Verdict.TheVariants.{Done}
-use Rattle.basics.specs.Ladder.{if◌then◌else◌, need◌or◌then◌}
+use Rattle.basics.specs.Ladder.{when◌then◌else◌, need◌or◌then◌}
 use Rattle.basics.specs.Rounds.{the_instance, the_round, none, is_none, nobody, owner_of, owned_or_0}
 use Rattle.basics.specs.Values.{null, is_null}
 use Rattle.basics.specs.Verdict.{verdict_number}
@@ -64,7 +64,7 @@ bytes_back p h n m v =
 -- ---- fields and message
 
 message-back : (m : Message) → message_of (fields_of m) ≡ m
-unfolding message_of fields_of if◌then◌else◌
+unfolding message_of fields_of when◌then◌else◌
 message-back (Request s v) = refl
 message-back (Prepare i r) = refl
 message-back (Promise s i r b v) = refl
@@ -109,7 +109,7 @@ owner-switch s r owned column = go (eqb (owner_of r) nobody) refl column
 -- by the type: the fields that a message leaves out are those that its row fixes, and no row is above 4
 by_kind : (k s : ℕ) (i : Instance) (r b : Round) (v : Value) → Columns (table_row (fields k s i r b v))
     → fields_of (message_of (fields k s i r b v)) ≡ fields k s i r b v
-unfolding table_row request_row prepare_row promise_row propose_row vote_row message_of fields_of if◌then◌else◌
+unfolding table_row request_row prepare_row promise_row propose_row vote_row message_of fields_of when◌then◌else◌
 by_kind zero s i r b v h = λ j.
     fields 0 s (the_instance (sym (eqb-true i.0 0 h.instance) j)) (the_round (sym (eqb-true r.0 0 h.round) j))
     (is-none b h.vote-round j) v

@@ -2,15 +2,15 @@
 -- Assumes nothing.
 use Prim.Native.Nat.{ℕ}
 use mathlib.Core.Path.{◌≡◌, refl, ap, ◌∙◌, subst}
-use mathlib.Core.Bool.{Bool, true, false, not}
+use mathlib.Core.Bool.{Bool, true, false}
 use mathlib.Core.List.{List, [], ◌∷◌}
 use lib.ListN.{length}
 use lib.Seq.{sets}
-use borrow.Author.Tests.{eq-eqb, ne_eqb, not-true, not-false}
+use borrow.Author.Tests.{eq-eqb, ne_eqb}
 use Rattle.numbers.specs.BigEndian.{with_number_at}
 use Rattle.numbers.proofs.Bytes.{written_out}
 use Rattle.basics.specs.declared.Verdict.TheVariants.{Done}
-use Rattle.basics.specs.Ladder.{if◌then◌else◌, need◌or◌then◌}
+use Rattle.basics.specs.Ladder.{when◌then◌else◌, need◌or◌then◌}
 use Rattle.basics.specs.Verdict.{verdict_number}
 use Rattle.basics.specs.Outcome.{Outcome, outcome}
 use Rattle.messages.specs.declared.Fields.{Fields}
@@ -35,12 +35,12 @@ stored p f h = subst (λ (l : List ℕ). stores l f ≡ packet_with f) (written_
 
 module _ (p : List ℕ) (m : Message) where
   pub nothing_put : (length p ≡ packet_length → ⊥) → p ≡ with_message p m
-  unfolding with_message if◌then◌else◌
+  unfolding with_message when◌then◌else◌
   nothing_put other = rw (ne_eqb (length p) packet_length other)
 
   module _ (long : length p ≡ packet_length) (f : Fields) (f-so : f ≡ fields_of m) where
     pub put : (q : List ℕ) → q ≡ packet_with f → q ≡ with_message p m
-    unfolding with_message packet_of if◌then◌else◌
+    unfolding with_message packet_of when◌then◌else◌
     put q q-so = rw (eq-eqb (length p) packet_length long) (q-so ∙ ap packet_with f-so)
 
   -- a message is written as its fields
@@ -54,10 +54,10 @@ module _ (p : List ℕ) (f : Fields) where
   refused-1 other = rw (ne_eqb (length p) packet_length other)
 
   module _ (long : length p ≡ packet_length) (kept : Bool) (kept-so : kept ≡ keeps_table f) where
-    pub refused-5 : not kept ≡ true → outcome 5 p ≡ write_fields f p
+    pub refused-5 : kept ≡ false → outcome 5 p ≡ write_fields f p
     unfolding write_fields need◌or◌then◌
-    refused-5 broken = rw (eq-eqb (length p) packet_length long, ← kept-so, not-true kept broken)
+    refused-5 broken = rw (eq-eqb (length p) packet_length long, ← kept-so, broken)
 
-    pub wrote : not kept ≡ false → (q : List ℕ) (answer : ℕ) → q ≡ packet_with f → answer ≡ verdict_number Done → outcome answer q ≡ write_fields f p
+    pub wrote : kept ≡ true → (q : List ℕ) (answer : ℕ) → q ≡ packet_with f → answer ≡ verdict_number Done → outcome answer q ≡ write_fields f p
     unfolding write_fields need◌or◌then◌
-    wrote sound q answer q-so answer-so = rw (eq-eqb (length p) packet_length long, ← kept-so, not-false kept sound, q-so, answer-so)
+    wrote sound q answer q-so answer-so = rw (eq-eqb (length p) packet_length long, ← kept-so, sound, q-so, answer-so)
