@@ -7,7 +7,7 @@ use mathlib.Core.List.{List, [], ◌∷◌, ◌++◌}
 use native.Mathlib.Nat.{add-zero, zero-add}
 use native.Mathlib.Omega.{arith}
 use lib.ListN.{length, get_or, set}
-use Rattle.basics.specs.Ladder.{if◌then◌else◌}
+use Rattle.basics.specs.Ladder.{when◌then◌else◌}
 use Rattle.checksum.specs.Sum.{carry_round, sum_onto, complement}
 use Rattle.checksum.specs.Promises.{plain_sum, residue, SumIsResidue, PartsAdd, weight, ByteMoves}
 
@@ -78,7 +78,7 @@ parts_add carried (high ∷ []) back even = absurd (omega arith)
 parts_add carried (high ∷ low ∷ rest) back even = parts_add (carry_round (carried + (high * 256 + low))) rest back (omega arith)
 
 pub byte-moves : ByteMoves
-unfolding plain_sum weight if◌then◌else◌
+unfolding plain_sum weight when◌then◌else◌
 byte-moves [] index new inside = absurd (omega arith)
 byte-moves (high ∷ []) zero new inside = omega arith
 byte-moves (high ∷ []) (suc index) new inside = absurd (omega arith)
@@ -107,7 +107,7 @@ complement-closes (suc n) = let so : residue (suc n) ≡ n % 65535 + 1 = residue
 -- where words and what stands beside them are a multiple of 65,535, they are none once one byte is another
 pub one-byte-tells : (bytes : List ℕ) (index new beside : ℕ) → index < length bytes → get_or bytes index 0 < 256 → new < 256 → (new ≡ get_or bytes index 0 → ⊥)
     → (plain_sum bytes + beside) % 65535 ≡ 0 → (plain_sum (set bytes index new) + beside) % 65535 ≡ 0 → ⊥
-unfolding weight if◌then◌else◌
+unfolding weight when◌then◌else◌
 one-byte-tells bytes index new beside inside old-fits new-fits other before after = go (index % 2) refl
   where
     moves : plain_sum (set bytes index new) + weight index * get_or bytes index 0 ≡ plain_sum bytes + weight index * new

@@ -5,7 +5,7 @@ use Prim.Native.Nat.{ℕ, zero, suc, ◌+◌, ◌-◌, ◌/◌, ◌%◌, ◌^◌
 use mathlib.Core.Path.{◌≡◌, refl, sym, ap, ◌∙◌}
 use mathlib.Core.List.{List, [], ◌∷◌, ◌++◌}
 use native.Mathlib.Omega.{arith}
-use lib.Dec.{eqb, ltb}
+use lib.Dec.{ltb}
 use lib.ListN.{length, get_or, set}
 use lib.Seq.{get_or-set_other}
 use borrow.Author.Tests.{eqb-true, eqb-false, ltb-true, ltb-false}
@@ -17,7 +17,7 @@ use Rattle.checksum.specs.Promises.{plain_sum}
 use Rattle.checksum.proofs.Laws.{plain-append, complement-closes, one-byte-tells}
 use Rattle.wire.specs.Packet.{packet_length}
 use Rattle.frames.specs.Frame.{frame_length, udp_length, protocol, packet_in, pseudo_header, sent_as, ipv4_checksum, udp_checksum}
-use Rattle.frames.specs.Promises.{Refused, ByteRefused, flipped, FlipRefused}
+use Rattle.frames.specs.Promises.{ByteRefused, flipped, FlipRefused}
 use Rattle.frames.proofs.Places.{same-part, part_at, part-set, Bytes-set}
 use Rattle.frames.proofs.Sums.{sum-without-field, before-bytes}
 use Rattle.frames.proofs.Laws.{Passed, passed, refused, carried}

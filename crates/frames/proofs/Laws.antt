@@ -8,7 +8,7 @@ use mathlib.Core.List.{List}
 use native.Mathlib.Omega.{arith}
 use lib.Dec.{eqb}
 use lib.ListN.{length, get_or}
-use lib.Seq.{sets, length-sets}
+use lib.Seq.{length-sets}
 use borrow.Author.Tests.{eqb-true, eq-eqb}
 use Rattle.numbers.specs.BigEndian.{big_endian, to_bytes, bytes_at, number_at, with_number_at, Bytes}
 use Rattle.numbers.proofs.Bytes.{number-within, length-with_number_at, big_endian-to_bytes, to_bytes-number_at}

@@ -2,7 +2,7 @@
 -- stored change no place beside them.
 -- Assumes nothing.
 use Prim.Native.Nat.{ℕ, zero, suc, ◌+◌, ◌/◌, ◌%◌, ◌≤◌, ◌<◌}
-use mathlib.Core.Path.{◌≡◌, refl, sym, ap, ◌∙◌}
+use mathlib.Core.Path.{◌≡◌, refl, sym, ap, ◌∙◌, subst}
 use mathlib.Core.Bool.{Bool, true, false, cond, ◌&&◌}
 use mathlib.Core.List.{List, [], ◌∷◌, ◌++◌}
 use native.Mathlib.Nat.{add-zero}
@@ -36,7 +36,8 @@ part_at p at (suc w) (suc i) inside = part_at p (at + 1) w i (omega arith) ∙ a
 -- a byte changed within a part is changed in the part
 pub part-set : (p : List ℕ) (at w i new : ℕ) → i < w → at + w ≤ length p → bytes_at (set p (at + i) new) at w ≡ set (bytes_at p at w) i new
 part-set p at zero i new inside whole = absurd (omega arith)
-part-set p at (suc w) zero new inside whole = rw add-zero
+part-set p at (suc w) zero new inside whole =
+    subst (λ k. bytes_at (set p k new) at (suc w) ≡ set (bytes_at p at (suc w)) 0 new) (sym (add-zero at))
     (λ j. get_or-set_same p at new 0 (omega arith) j ∷ same-part (set p at new) p (at + 1) w (λ k low high. get_or-set_other p at k new 0 (omega arith)) j)
 part-set p at (suc w) (suc i) new inside whole =
     let place : at + suc i ≡ at + 1 + i = omega arith in

@@ -45,6 +45,11 @@ sum-of-parts carried first second low bytes-first bytes-second even =
     ∙ sum-is-residue carried (first ++ second) low (Bytes-append first second bytes-first bytes-second)
     ∙ ap (λ plain. residue (carried + plain)) (plain-append first second even)
 
+-- the addresses and the UDP header in one part, and the words that are the same in every frame
+another-order : (f : List ℕ) (packet : ℕ) → 61 + (plain_sum (bytes_at f 26 14) + packet) ≡ plain_sum (pseudo_header f ++ bytes_at f 34 6) + packet
+unfolding plain_sum
+another-order f packet = omega arith
+
 module _ (f : List ℕ) (bytes : Bytes f) where
   field : (at w : ℕ) → Bytes (bytes_at f at w)
   field = Bytes-bytes_at f bytes
@@ -72,9 +77,10 @@ module _ (f : List ℕ) (bytes : Bytes f) where
 
     pub udp-summed : (before whole : ℕ) → before ≡ sum_onto 61 (take 14 (drop 26 f)) → whole ≡ sum_onto before (take 36 (drop 42 f))
         → sent_as (complement whole) ≡ udp_checksum f
-    unfolding udp_checksum plain_sum
+    unfolding udp_checksum
     udp-summed before whole before-so whole-so =
-        let words : 61 + (plain_sum (bytes_at f 26 14) + plain_sum (packet_in f)) ≡ plain_sum (pseudo_header f ++ bytes_at f 34 6) + plain_sum (packet_in f) = omega arith in
+        let words : 61 + (plain_sum (bytes_at f 26 14) + plain_sum (packet_in f)) ≡ plain_sum (pseudo_header f ++ bytes_at f 34 6) + plain_sum (packet_in f) =
+        another-order f (plain_sum (packet_in f)) in
         ap (λ sum. sent_as (complement sum))
         (whole-so ∙ (λ i. sum_onto ((before-so ∙ ap (sum_onto 61) (part 26 14 (omega arith))) i) (part 42 36 (omega arith) i))
         ∙ sum-of-parts 61 (bytes_at f 26 14) (packet_in f) (omega arith) (field 26 14) (field 42 packet_length) refl

@@ -2,12 +2,10 @@
 -- Assumes nothing.
 use Prim.Native.Nat.{ℕ, ◌+◌}
 use mathlib.Core.Path.{◌≡◌, refl, sym, ap, ◌∙◌}
-use mathlib.Core.List.{List, [], ◌∷◌, ◌++◌, append-nil}
+use mathlib.Core.List.{List, ◌++◌, append-nil}
 use native.Mathlib.Omega.{arith}
 use lib.ListN.{length, take, drop, length-append, drop_of_length-le}
 use lib.Seq.{sets, sets-eq, length-sets}
-use denote.Enum.Declared.{tag_of}
-use types.Run.{OneOf}
 use borrow.Author.Tests.{eq-eqb, ne_eqb}
 use borrow.Rule.Slice.PartMut.{put_mid}
 use Rattle.numbers.specs.BigEndian.{to_bytes}
@@ -19,10 +17,8 @@ use Rattle.basics.specs.Ladder.{need◌or◌then◌}
 use Rattle.basics.specs.Outcome.{outcome}
 use Rattle.basics.specs.Verdict.{verdict_number}
 use Rattle.messages.specs.declared.Message.{Message}
-use Rattle.messages.specs.declared.Message.TheVariants.{Prepare}
+use Rattle.messages.specs.declared.Message.TheVariants.{Request, Prepare, Promise, Propose, Vote}
 use Rattle.messages.specs.Message.{when_prepare}
-use Rattle.messages.proofs.Eliminators.{no-prepare}
-use Rattle.messages.specs.contracts.Message.{the_type}
 use Rattle.wire.specs.declared.Reading.{Reading}
 use Rattle.wire.specs.declared.Reading.TheVariants.{Read, Refused}
 use Rattle.wire.specs.Packet.{packet_length, read_packet, refusal_of, packet_of, with_message}
@@ -32,15 +28,24 @@ use Rattle.frames.specs.Header.{Header, ethernet_bytes, ipv4_bytes, udp_bytes, h
 use Rattle.framing.specs.Framing.{addressed, prepare_framed, frame_prepare}
 use Rattle.frames.proofs.Parts.{part-lent, part-back}
 
+-- a message that is no prepare prepares nothing
+not-prepare : {A : Type 0} (here : Instance → Round → A) (other : A) (m : Message) → ((i : Instance) (r : Round) → m ≡ Prepare i r → ⊥) → other ≡ when_prepare here other m
+unfolding when_prepare
+not-prepare here other (Request s v) differs = refl
+not-prepare here other (Prepare i r) differs = absurd (differs i r refl)
+not-prepare here other (Promise s i r b v) differs = refl
+not-prepare here other (Propose i r v) differs = refl
+not-prepare here other (Vote s i r v) differs = refl
+
 module _ (h : Header) (p f : List ℕ) (reading : Reading) (reading-so : reading ≡ read_packet p) where
   pub malformed : (number answer : ℕ) → reading ≡ Refused number → answer ≡ refusal_of reading → outcome answer f ≡ frame_prepare h p f
   unfolding frame_prepare prepare_framed
   malformed number answer refuses answer-so = rw (← reading-so, answer-so, refuses)
 
   module _ (m : Message) (reads : reading ≡ Read m) where
-    pub refused-6 : OneOf (0 ∷ 2 ∷ 3 ∷ 4 ∷ []) (tag_of the_type m) → outcome 6 f ≡ frame_prepare h p f
+    pub refused-6 : ((i : Instance) (r : Round) → m ≡ Prepare i r → ⊥) → outcome 6 f ≡ frame_prepare h p f
     unfolding frame_prepare prepare_framed
-    refused-6 tag = rw (← reading-so, reads) (no-prepare _ _ m tag)
+    refused-6 other = rw (← reading-so, reads) (not-prepare _ _ m other)
 
     module _ (i : Instance) (r : Round) (asks : m ≡ Prepare i r) where
       pub refused-21 : (length f ≡ frame_length → ⊥) → outcome 21 f ≡ frame_prepare h p f

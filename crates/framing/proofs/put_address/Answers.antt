@@ -1,0 +1,11 @@
+-- `framing::put_address` meets its contract: an address is stored as a number of four bytes and one of two.
+-- Assumes nothing.
+use Rattle.std.proofs.Common.{arith, rules}
+use Rattle.framing.proofs.Stores.{address-stored}
+use Rattle.framing.proofs.put_address.Goals as goal
+
+pub returns : goal.returns
+returns c =
+    rw (c.write_u16.ensures, c.read_u16.ensures, c.write_u32.ensures, c.read_u32.ensures)
+    (address-stored c.args.frame.now c.args.at c.args.address.now c.requires.inside c.requires.long
+    (λ i. search (arith, rules)))

@@ -1,0 +1,17 @@
+-- `framing::put_ipv4` meets its contract: its stores leave the bytes of the IPv4 header.
+-- Assumes nothing.
+use Rattle.framing.proofs.Stores.{ipv4-stored}
+use Rattle.framing.proofs.put_ipv4.Goals as goal
+
+pub returns : goal.returns
+returns c =
+    rw (
+      c.write_u32-3.ensures,
+      c.write_u32-2.ensures,
+      c.write_u16-4.ensures,
+      c.write_u16-3.ensures,
+      c.write_u32.ensures,
+      c.write_u16-2.ensures,
+      c.write_u16.ensures,
+    )
+    (ipv4-stored c.args.frame.now c.requires c.args.from c.args.to)
