@@ -1,11 +1,10 @@
 -- Each way out of the acceptor's step is what the definitions say, by the tests that led there.
 -- Assumes nothing.
 use Prim.Native.Nat.{ℕ}
-use mathlib.Core.Path.{◌≡◌, refl, sym, ◌∙◌}
+use mathlib.Core.Path.{◌≡◌, refl, sym, ap, ◌∙◌}
 use mathlib.Core.Bool.{Bool, true, false, not}
 use mathlib.Core.List.{List}
 use lib.ListN.{length}
-use borrow.Author.Tests.{not-false}
 use Rattle.basics.specs.declared.Place.{Place}
 use Rattle.basics.specs.declared.Place.TheVariants.{At, Nowhere}
 use Rattle.basics.specs.declared.Verdict.{Verdict}
@@ -53,23 +52,23 @@ pub cell-within : (s : Settings) (own : ℕ) (t : Tables) → Allowed s own t �
 cell-within s own t brought i p index p-so at = index-within t index brought.sized (placed-index s.instances i index (sym p-so ∙ at)).1
 
 module _ (s : Settings) (own : ℕ) (packet : List ℕ) (t : Tables) (fine : Bool) (fine-so : fine ≡ acceptor_allowed s own t) where
-  pub refused-7 : not fine ≡ true → unchanged packet t 7 ≡ acceptor_step s own packet t
+  pub refused-7 : fine ≡ false → unchanged packet t 7 ≡ acceptor_step s own packet t
   unfolding acceptor_step acceptor
-  refused-7 no_way = steps.refused-7 (acceptor s own) packet t fine fine-so no_way
+  refused-7 no_way = steps.refused-7 (acceptor s own) packet t fine fine-so (ap not no_way)
 
-  module _ (passed : not fine ≡ false) where
+  module _ (passed : fine ≡ true) where
     pub brings : Allowed s own t
-    brings = allowed-tables s own t (sym fine-so ∙ not-false fine passed)
+    brings = allowed-tables s own t (sym fine-so ∙ passed)
 
     module _ (reading : Reading) (reading-so : reading ≡ read_packet packet) where
       pub malformed : (number answer : ℕ) → reading ≡ Refused number → answer ≡ refusal_of reading → unchanged packet t answer ≡ acceptor_step s own packet t
       unfolding acceptor_step acceptor
-      malformed number answer refuses answer-so = steps.malformed (acceptor s own) packet t fine fine-so passed reading reading-so number answer refuses answer-so
+      malformed number answer refuses answer-so = steps.malformed (acceptor s own) packet t fine fine-so (ap not passed) reading reading-so number answer refuses answer-so
 
       module _ (m : Message) (reads : reading ≡ Read m) where
         acted : (o : Outcome (Lent Tables)) → o ≡ act (acceptor s own) packet t m → o ≡ acceptor_step s own packet t
         unfolding acceptor_step acceptor
-        acted o o-so = steps.acted (acceptor s own) packet t fine fine-so passed reading reading-so m o reads o-so
+        acted o o-so = steps.acted (acceptor s own) packet t fine fine-so (ap not passed) reading reading-so m o reads o-so
 
         module _ (asked : Ordered) (asked-so : asked ≡ order_of m) where
           pub refused-6 : asked ≡ ordered.OtherKind → unchanged packet t 6 ≡ acceptor_step s own packet t

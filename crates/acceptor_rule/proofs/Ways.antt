@@ -2,19 +2,13 @@
 -- Assumes nothing.
 use Prim.Native.Nat.{ℕ}
 use mathlib.Core.Path.{◌≡◌, refl}
-use mathlib.Core.Bool.{Bool, true, false, not}
-use mathlib.Core.List.{[], ◌∷◌}
-use mathlib.Core.Logic.{⊎_elim}
-use denote.Enum.Declared.{tag_of}
-use types.Run.{OneOf}
-use borrow.Author.Tests.{not-true, not-false, eqb-false}
+use mathlib.Core.Bool.{Bool, true, false}
 use Rattle.basics.specs.declared.Instance.{Instance}
 use Rattle.basics.specs.declared.Round.{Round}
 use Rattle.basics.specs.declared.Value.{Value}
 use Rattle.messages.specs.declared.Message.{Message}
 use Rattle.messages.specs.declared.Message.TheVariants.{Request, Prepare, Promise, Propose, Vote}
 use Rattle.messages.specs.Message.{when_prepare, when_propose}
-use Rattle.messages.specs.contracts.Message.{the_type}
 use Rattle.basics.specs.Ladder.{need◌or◌then◌}
 use Rattle.basics.specs.Rounds.{at_most}
 use Rattle.player.specs.Step.{Ruling, refused}
@@ -24,25 +18,26 @@ use Rattle.acceptor_rule.specs.declared.Asked.{Asked}
 use Rattle.acceptor_rule.specs.Rule.{possible, obeying, obey}
 
 module _ (own : ℕ) (c : Cell) (o : Order) (sound : Bool) (sound-so : sound ≡ possible c) where
-  pub obey-17 : not sound ≡ true → refused 17 ≡ obey own c o
+  pub obey-17 : sound ≡ false → refused 17 ≡ obey own c o
   unfolding obey need◌or◌then◌
-  obey-17 impossible = rw (← sound-so, not-true sound impossible)
+  obey-17 impossible = rw (← sound-so, impossible)
 
-  module _ (fine : not sound ≡ false) (low : Bool) (low-so : low ≡ at_most c.round o.round) where
-    pub obey-10 : not low ≡ true → refused 10 ≡ obey own c o
+  module _ (fine : sound ≡ true) (low : Bool) (low-so : low ≡ at_most c.round o.round) where
+    pub obey-10 : low ≡ false → refused 10 ≡ obey own c o
     unfolding obey need◌or◌then◌
-    obey-10 below = rw (← sound-so, not-false sound fine, ← low-so, not-true low below)
+    obey-10 below = rw (← sound-so, fine, ← low-so, below)
 
-    pub obeyed : not low ≡ false → (asked : Asked) (r : Ruling Cell) → o.asked ≡ asked → r ≡ obeying own c o.instance o.round asked → r ≡ obey own c o
+    pub obeyed : low ≡ true → (asked : Asked) (r : Ruling Cell) → o.asked ≡ asked → r ≡ obeying own c o.instance o.round asked → r ≡ obey own c o
     unfolding obey need◌or◌then◌
-    obeyed at_least_lem asked r asked-so r-so = rw (← sound-so, not-false sound fine, ← low-so, not-false low at_least_lem, asked-so) r-so
+    obeyed at_least_lem asked r asked-so r-so = rw (← sound-so, fine, ← low-so, at_least_lem, asked-so) r-so
 
--- the `_` of the match on prepare and propose: a message with another tag is neither
+-- the `_` of the match on prepare and propose: a message that is neither orders nothing
 pub neither : {A : Type 0} (prepared : Instance → Round → A) (proposed : Instance → Round → Value → A) (other : A) (m : Message)
-    → OneOf (0 ∷ 2 ∷ 4 ∷ []) (tag_of the_type m) → other ≡ when_prepare prepared (when_propose proposed other m) m
+    → ((i : Instance) (r : Round) → m ≡ Prepare i r → ⊥) → ((i : Instance) (r : Round) (v : Value) → m ≡ Propose i r v → ⊥)
+    → other ≡ when_prepare prepared (when_propose proposed other m) m
 unfolding when_prepare when_propose
-neither prepared proposed other (Request s v) tag = refl
-neither prepared proposed other (Prepare i r) tag = absurd (⊎_elim (eqb-false 1 0 refl) (⊎_elim (eqb-false 1 2 refl) (eqb-false 1 4 refl)) tag)
-neither prepared proposed other (Promise s i r b v) tag = refl
-neither prepared proposed other (Propose i r v) tag = absurd (⊎_elim (eqb-false 3 0 refl) (⊎_elim (eqb-false 3 2 refl) (eqb-false 3 4 refl)) tag)
-neither prepared proposed other (Vote s i r v) tag = refl
+neither prepared proposed other (Request s v) no-prepare no-propose = refl
+neither prepared proposed other (Prepare i r) no-prepare no-propose = absurd (no-prepare i r refl)
+neither prepared proposed other (Promise s i r b v) no-prepare no-propose = refl
+neither prepared proposed other (Propose i r v) no-prepare no-propose = absurd (no-propose i r v refl)
+neither prepared proposed other (Vote s i r v) no-prepare no-propose = refl

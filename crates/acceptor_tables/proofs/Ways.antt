@@ -3,10 +3,9 @@
 -- Assumes nothing.
 use Prim.Native.Nat.{ℕ}
 use mathlib.Core.Path.{◌≡◌, sym, ◌∙◌}
-use mathlib.Core.Bool.{Bool, true, false, not}
+use mathlib.Core.Bool.{Bool, true, false}
 use mathlib.Core.List.{List}
 use lib.ListN.{length, replicate}
-use borrow.Author.Tests.{not-false}
 use Rattle.basics.specs.declared.Verdict.TheVariants.{Done}
 use Rattle.basics.specs.Outcome.{outcome}
 use Rattle.basics.specs.Rounds.{none}
@@ -17,15 +16,15 @@ use Rattle.acceptor_tables.specs.Tables.{Tables, tables, fresh_tables, fresh_all
 use Rattle.acceptor_tables.proofs.Laws.{allowed-sizes}
 
 module _ (s : Settings) (t : Tables) (fine : Bool) (fine-so : fine ≡ fresh_allowed s t) where
-  pub refused-7 : not fine ≡ true → outcome 7 t ≡ acceptor_fresh s t
+  pub refused-7 : fine ≡ false → outcome 7 t ≡ acceptor_fresh s t
   unfolding acceptor_fresh
   refused-7 no_way = fresh-refused t (fresh_tables s.instances) fine-so no_way
 
-  pub filled : not fine ≡ false → (answer : ℕ) (rounds vote_rounds values : List ℕ) → answer ≡ verdict_number Done → rounds ≡ replicate (length t.rounds) 0
+  pub filled : fine ≡ true → (answer : ℕ) (rounds vote_rounds values : List ℕ) → answer ≡ verdict_number Done → rounds ≡ replicate (length t.rounds) 0
       → vote_rounds ≡ replicate (length t.vote_rounds) none.0 → values ≡ replicate (length t.values) 0
       → outcome answer (tables rounds vote_rounds values) ≡ acceptor_fresh s t
   unfolding acceptor_fresh
   filled passed answer rounds vote_rounds values answer-so rounds-so vote-rounds-so values-so =
-      let sized = (allowed-sizes s t (sym fine-so ∙ not-false fine passed)).1 in
+      let sized = (allowed-sizes s t (sym fine-so ∙ passed)).1 in
       fresh-done t (fresh_tables s.instances) fine-so passed answer-so
       (rw (rounds-so, vote-rounds-so, values-so, sized.of_rounds, sized.of_vote_rounds, sized.of_values))

@@ -7,9 +7,6 @@ use mathlib.Core.Bool.{Bool, true, false, not}
 use mathlib.Core.List.{List, [], ◌∷◌}
 use native.Mathlib.Omega.{arith}
 use lib.ListN.{length, get_or, set}
-use denote.Enum.Declared.{tag_of}
-use types.Run.{OneOf}
-use borrow.Author.Tests.{not-false}
 use Rattle.basics.specs.declared.Place.TheVariants.{At, Nowhere}
 use Rattle.basics.specs.declared.Value.{Value}
 use Rattle.basics.specs.declared.Verdict.TheVariants.{ToAcceptors, Done}
@@ -19,8 +16,7 @@ use Rattle.basics.specs.Verdict.{verdict_number}
 use Rattle.messages.specs.declared.Message.{Message}
 use Rattle.messages.specs.declared.Message.TheVariants.{Request}
 use Rattle.messages.specs.Message.{when_request}
-use Rattle.messages.proofs.Eliminators.{no-request}
-use Rattle.messages.specs.contracts.Message.{the_type}
+use Rattle.messages.proofs.Eliminators.{request-elim}
 use Rattle.wire.specs.declared.Reading.{Reading}
 use Rattle.wire.specs.declared.Reading.TheVariants.{Read, Refused}
 use Rattle.wire.specs.Packet.{packet_length, read_packet, refusal_of, with_message}
@@ -33,7 +29,7 @@ use Rattle.primary_rule.specs.declared.Cell.{Cell}
 use Rattle.primary_rule.specs.declared.Ruled.{Ruled}
 use Rattle.primary_rule.specs.declared.Ruled.TheVariants as answers
 use Rattle.primary_rule.specs.Rule.{cell, fresh_cell, take_request, ruling_of}
-use Rattle.primary.specs.Primary.{is_allowed, primary_allowed, fresh_record, primary_fresh, rule, primary, primary_step, primary_by_reference, primary_request, as_slice}
+use Rattle.primary.specs.Primary.{is_allowed, primary_allowed, fresh_record, primary_fresh, place, rule, primary, primary_step, primary_by_reference, primary_request, as_slice}
 use Rattle.primary.proofs.Laws.{allowed-next, slice-is-the-record}
 
 -- ---- what the rule came to, sent
@@ -50,25 +46,28 @@ module _ (packet : List ℕ) (c : Cell) (r : Ruled) where
 -- ---- the step over the cell by value
 
 module _ (s : Settings) (packet : List ℕ) (c : Cell) (fine : Bool) (fine-so : fine ≡ allowed s) where
-  pub refused-7 : not fine ≡ true → unchanged packet c 7 ≡ primary_request s packet c
+  pub refused-7 : fine ≡ false → unchanged packet c 7 ≡ primary_request s packet c
   unfolding primary_request primary_by_reference
-  refused-7 no_way = steps.refused-7 (primary_by_reference s) packet c fine fine-so no_way
+  refused-7 no_way = steps.refused-7 (primary_by_reference s) packet c fine fine-so (ap not no_way)
 
-  module _ (passed : not fine ≡ false) (reading : Reading) (reading-so : reading ≡ read_packet packet) where
+  module _ (passed : fine ≡ true) (reading : Reading) (reading-so : reading ≡ read_packet packet) where
     pub malformed : (number answer : ℕ) → reading ≡ Refused number → answer ≡ refusal_of reading → unchanged packet c answer ≡ primary_request s packet c
     unfolding primary_request primary_by_reference
     malformed number answer refuses answer-so =
-        steps.malformed (primary_by_reference s) packet c fine fine-so passed reading reading-so number answer refuses answer-so
+        steps.malformed (primary_by_reference s) packet c fine fine-so (ap not passed) reading reading-so number answer refuses answer-so
 
     module _ (m : Message) (reads : reading ≡ Read m) where
       acted : (o : Outcome (Lent Cell)) → o ≡ act (primary_by_reference s) packet c m → o ≡ primary_request s packet c
       unfolding primary_request primary_by_reference
-      acted o o-so = steps.acted (primary_by_reference s) packet c fine fine-so passed reading reading-so m o reads o-so
+      acted o o-so = steps.acted (primary_by_reference s) packet c fine fine-so (ap not passed) reading reading-so m o reads o-so
 
-      pub refused-6 : OneOf (1 ∷ 2 ∷ 3 ∷ 4 ∷ []) (tag_of the_type m) → unchanged packet c 6 ≡ primary_request s packet c
+      pub refused-6 : ((switch : ℕ) (value : Value) → m ≡ Request switch value → ⊥) → unchanged packet c 6 ≡ primary_request s packet c
       unfolding primary_by_reference act
-      refused-6 tag =
-          acted _ (steps.not-placed (λ d index. d) (λ d index next. next) packet c (λ d. rule s.instances d m) _ (Nowhere 6) (no-request _ _ m tag) 6 6 refl refl)
+      refused-6 none =
+          acted _ (steps.not-placed (λ d index. d) (λ d index next. next) packet c (λ d. rule s.instances d m) _ (Nowhere 6) no_place 6 6 refl refl)
+        where
+          no_place : Nowhere 6 ≡ place m
+          no_place = request-elim (λ p. Nowhere 6 ≡ p) _ _ m (λ switch value asks. absurd (none switch value asks)) refl
 
       pub request-taken : (switch : ℕ) (value : Value) → m ≡ Request switch value → (r : Ruled) (left : Outcome (Lent Cell))
           → ruling_of r ≡ take_request s.instances c value → left ≡ ruled packet c (λ next. next) (ruling_of r) → left ≡ primary_request s packet c
@@ -79,13 +78,13 @@ module _ (s : Settings) (packet : List ℕ) (c : Cell) (fine : Bool) (fine-so : 
 
 -- ---- the step over a slice
 
-pub slice-refused-7 : (s : Settings) (packet next : List ℕ) (fine : Bool) → fine ≡ primary_allowed s next → not fine ≡ true
+pub slice-refused-7 : (s : Settings) (packet next : List ℕ) (fine : Bool) → fine ≡ primary_allowed s next → fine ≡ false
     → unchanged packet next 7 ≡ primary_step s packet next
 unfolding primary_step primary
-slice-refused-7 s packet next fine fine-so no_way = steps.refused-7 (primary s) packet next fine fine-so no_way
+slice-refused-7 s packet next fine fine-so no_way = steps.refused-7 (primary s) packet next fine fine-so (ap not no_way)
 
-pub one_number : (s : Settings) (count : ℕ) (fine : Bool) → fine ≡ is_allowed s count → not fine ≡ false → count ≡ 1
-one_number s count fine fine-so passed = (allowed-next s count (sym fine-so ∙ not-false fine passed)).sized
+pub one_number : (s : Settings) (count : ℕ) (fine : Bool) → fine ≡ is_allowed s count → fine ≡ true → count ≡ 1
+one_number s count fine fine-so passed = (allowed-next s count (sym fine-so ∙ passed)).sized
 
 -- what the step over the cell came to, stored into the slice that lent it, is the step over the slice
 pub stored : (s : Settings) (packet next : List ℕ) → length next ≡ 1 → (o : Outcome (Lent Cell)) → o ≡ primary_request s packet (cell (the_instance (get_or next 0 0)))
@@ -97,11 +96,11 @@ stored s packet (number ∷ second ∷ rest) long o o-so = absurd (omega arith)
 -- ---- the record set fresh
 
 module _ (s : Settings) (next : List ℕ) (fine : Bool) (fine-so : fine ≡ primary_allowed s next) where
-  pub fresh-refused-7 : not fine ≡ true → outcome 7 next ≡ primary_fresh s next
+  pub fresh-refused-7 : fine ≡ false → outcome 7 next ≡ primary_fresh s next
   unfolding primary_fresh
   fresh-refused-7 no_way = fresh-refused next fresh_record fine-so no_way
 
-  pub freshly-stored : not fine ≡ false → (answer : ℕ) (c : Cell) → answer ≡ verdict_number Done → c ≡ fresh_cell → outcome answer (set next 0 c.next.0) ≡ primary_fresh s next
+  pub freshly-stored : fine ≡ true → (answer : ℕ) (c : Cell) → answer ≡ verdict_number Done → c ≡ fresh_cell → outcome answer (set next 0 c.next.0) ≡ primary_fresh s next
   unfolding primary_fresh
   freshly-stored passed answer c answer-so c-so =
       fresh-done next fresh_record fine-so passed answer-so (one-stored next (one_number s (length next) fine fine-so passed) ∙ ap (λ fresh. fresh.next.0 ∷ []) c-so)

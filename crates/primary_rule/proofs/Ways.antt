@@ -2,17 +2,17 @@
 -- Assumes nothing.
 use Prim.Native.Nat.{ℕ, ◌<◌}
 use mathlib.Core.Path.{◌≡◌, sym, ◌∙◌}
-use mathlib.Core.Bool.{Bool, true, false, not}
+use mathlib.Core.Bool.{Bool, true, false}
 use native.Mathlib.Omega.{arith}
-use borrow.Author.Tests.{not-true, not-false, leb-true, leb-false}
+use borrow.Author.Tests.{leb-true, leb-false}
 use Rattle.primary_rule.specs.declared.Cell.{Cell}
 use Rattle.primary_rule.specs.Rule.{possible}
 
 module _ (N : ℕ) (c : Cell) (sound : Bool) (sound-so : sound ≡ possible N c) where
-  pub above : not sound ≡ true → N < c.next.0
+  pub above : sound ≡ false → N < c.next.0
   unfolding possible
-  above impossible = leb-false c.next.0 N (sym sound-so ∙ not-true sound impossible)
+  above impossible = leb-false c.next.0 N (sym sound-so ∙ impossible)
 
-  pub below : not sound ≡ false → (c.next.0 ≡ N → ⊥) → c.next.0 < N
+  pub below : sound ≡ true → (c.next.0 ≡ N → ⊥) → c.next.0 < N
   unfolding possible
-  below fine differs = let most = leb-true c.next.0 N (sym sound-so ∙ not-false sound fine) in omega arith
+  below fine differs = let most = leb-true c.next.0 N (sym sound-so ∙ fine) in omega arith
