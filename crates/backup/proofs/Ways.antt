@@ -1,13 +1,11 @@
 -- Each way out of the backup's calls is what the definitions say, by the tests that led there.
 -- Assumes nothing.
 use Prim.Native.Nat.{ℕ}
-use mathlib.Core.Path.{◌≡◌, refl, sym, ◌∙◌}
+use mathlib.Core.Path.{◌≡◌, refl, sym, ap, ◌∙◌}
 use mathlib.Core.Bool.{Bool, true, false, not}
-use mathlib.Core.List.{List, [], ◌∷◌}
-use denote.Enum.Declared.{tag_of}
-use types.Run.{OneOf}
+use mathlib.Core.List.{List}
 use lib.ListN.{length}
-use borrow.Author.Tests.{not-true, not-false, eq-eqb, ne_eqb}
+use borrow.Author.Tests.{eq-eqb, ne_eqb}
 use Rattle.basics.specs.declared.Instance.{Instance}
 use Rattle.basics.specs.declared.Place.{Place}
 use Rattle.basics.specs.declared.Place.TheVariants.{At, Nowhere}
@@ -19,10 +17,8 @@ use Rattle.basics.specs.Places.{placed, nowhere_of}
 use Rattle.basics.specs.Verdict.{verdict_number}
 use Rattle.basics.proofs.Ladder.{need-passed, need-failed}
 use Rattle.messages.specs.declared.Message.{Message}
-use Rattle.messages.specs.declared.Message.TheVariants.{Promise}
+use Rattle.messages.specs.declared.Message.TheVariants.{Request, Prepare, Promise, Propose, Vote}
 use Rattle.messages.specs.Message.{when_promise}
-use Rattle.messages.proofs.Eliminators.{no-promise}
-use Rattle.messages.specs.contracts.Message.{the_type}
 use Rattle.wire.specs.declared.Reading.{Reading}
 use Rattle.wire.specs.declared.Reading.TheVariants.{Read, Refused}
 use Rattle.wire.specs.Packet.{packet_length, read_packet, refusal_of, with_message}
@@ -53,18 +49,32 @@ module _ (packet : List ℕ) (t : Tables) (index : ℕ) (r : Ruled) where
   carried-sent c m answer left next r-so long answer-so left_so next-so =
       rw r-so (steps.sent packet t next (with_cell t index) answer ToAcceptors c answer-so next-so left m long left_so)
 
+-- ---- the calls
+
+abbrev NoPromise : Message → Type 0
+NoPromise m = (sender : ℕ) (i : Instance) (round vote_round : Round) (v : Value) → m ≡ Promise sender i round vote_round v → ⊥
+
+-- what is no promise has no place
+placeless : (N : ℕ) (m : Message) → NoPromise m → Nowhere 6 ≡ place N m
+unfolding when_promise
+placeless N (Request sender v) other = refl
+placeless N (Prepare i r) other = refl
+placeless N (Promise sender i r b v) other = absurd (other sender i r b v refl)
+placeless N (Propose i r v) other = refl
+placeless N (Vote sender i r v) other = refl
+
 module _ (s : Settings) (own : ℕ) (packet : List ℕ) (t : Tables) (fine : Bool) (fine-so : fine ≡ backup_allowed s own t) where
-  pub step-7 : not fine ≡ true → unchanged packet t 7 ≡ backup_step s own packet t
+  pub step-7 : fine ≡ false → unchanged packet t 7 ≡ backup_step s own packet t
   unfolding backup_step backup
-  step-7 no_way = steps.refused-7 (backup s own) packet t fine fine-so no_way
+  step-7 no_way = steps.refused-7 (backup s own) packet t fine fine-so (ap not no_way)
 
-  pub start-7 : (i : Instance) (floor : ℕ) (v : Value) → not fine ≡ true → unchanged packet t 7 ≡ backup_start s own i floor v packet t
+  pub start-7 : (i : Instance) (floor : ℕ) (v : Value) → fine ≡ false → unchanged packet t 7 ≡ backup_start s own i floor v packet t
   unfolding backup_start
-  start-7 i floor v no_way = sym (need-failed _ _ (sym fine-so ∙ not-true fine no_way))
+  start-7 i floor v no_way = sym (need-failed _ _ (sym fine-so ∙ no_way))
 
-  module _ (passed : not fine ≡ false) where
+  module _ (passed : fine ≡ true) where
     allowed : backup_allowed s own t ≡ true
-    allowed = sym fine-so ∙ not-false fine passed
+    allowed = sym fine-so ∙ passed
 
     pub brings : Allowed s own t
     brings = allowed-tables s own t allowed
@@ -95,16 +105,16 @@ module _ (s : Settings) (own : ℕ) (packet : List ℕ) (t : Tables) (fine : Boo
     module _ (reading : Reading) (reading-so : reading ≡ read_packet packet) where
       pub malformed : (number answer : ℕ) → reading ≡ Refused number → answer ≡ refusal_of reading → unchanged packet t answer ≡ backup_step s own packet t
       unfolding backup_step backup
-      malformed number answer refuses answer-so = steps.malformed (backup s own) packet t fine fine-so passed reading reading-so number answer refuses answer-so
+      malformed number answer refuses answer-so = steps.malformed (backup s own) packet t fine fine-so (ap not passed) reading reading-so number answer refuses answer-so
 
       module _ (m : Message) (reads : reading ≡ Read m) where
         acted : (o : Outcome (Lent Tables)) → o ≡ act (backup s own) packet t m → o ≡ backup_step s own packet t
         unfolding backup_step backup
-        acted o o-so = steps.acted (backup s own) packet t fine fine-so passed reading reading-so m o reads o-so
+        acted o o-so = steps.acted (backup s own) packet t fine fine-so (ap not passed) reading reading-so m o reads o-so
 
-        pub step-6 : OneOf (0 ∷ 1 ∷ 3 ∷ 4 ∷ []) (tag_of the_type m) → unchanged packet t 6 ≡ backup_step s own packet t
+        pub step-6 : NoPromise m → unchanged packet t 6 ≡ backup_step s own packet t
         unfolding backup act
-        step-6 tag = acted _ (steps.not-placed cell_at with_cell packet t (λ c. rule s.acceptors own c m) _ (Nowhere 6) (no-promise _ _ m tag) 6 6 refl refl)
+        step-6 other = acted _ (steps.not-placed cell_at with_cell packet t (λ c. rule s.acceptors own c m) _ (Nowhere 6) (placeless s.instances m other) 6 6 refl refl)
 
         module _ (sender : ℕ) (i : Instance) (round vote_round : Round) (v : Value) (promises : m ≡ Promise sender i round vote_round v) (p : Place)
             (p-so : p ≡ placed s.instances i) where

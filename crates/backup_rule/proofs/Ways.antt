@@ -2,9 +2,9 @@
 -- Assumes nothing.
 use Prim.Native.Nat.{ℕ, ◌≤◌, ◌<◌, max}
 use mathlib.Core.Path.{◌≡◌}
-use mathlib.Core.Bool.{Bool, true, false, not, ◌&&◌}
+use mathlib.Core.Bool.{Bool, true, false, ◌&&◌}
 use lib.Dec.{eqb}
-use borrow.Author.Tests.{not-true, not-false, lt-ltb, le-ltb}
+use borrow.Author.Tests.{lt-ltb, le-ltb}
 use Rattle.basics.specs.declared.Instance.{Instance}
 use Rattle.basics.specs.declared.Round.{Round}
 use Rattle.basics.specs.declared.Value.{Value}
@@ -21,18 +21,18 @@ use Rattle.backup_rule.specs.Rule.{next_round, started, start, counting, when_ma
 -- ---- start
 
 module _ (M own : ℕ) (c : Cell) (instance : Instance) (floor : ℕ) (value : Value) (sound : Bool) (sound-so : sound ≡ possible M own c) where
-  pub start-17 : not sound ≡ true → refused 17 ≡ start M own c instance floor value
+  pub start-17 : sound ≡ false → refused 17 ≡ start M own c instance floor value
   unfolding start need◌or◌then◌
-  start-17 impossible = rw (← sound-so, not-true sound impossible)
+  start-17 impossible = rw (← sound-so, impossible)
 
-  module _ (fine : not sound ≡ false) (next : ℕ) (next-so : next ≡ next_round own (max c.round.0 floor)) where
+  module _ (fine : sound ≡ true) (next : ℕ) (next-so : next ≡ next_round own (max c.round.0 floor)) where
     pub start-16 : 4294967295 ≤ next → refused 16 ≡ start M own c instance floor value
     unfolding start need◌or◌then◌
-    start-16 past = rw (← sound-so, not-false sound fine, ← next-so, le-ltb next 4294967295 past)
+    start-16 past = rw (← sound-so, fine, ← next-so, le-ltb next 4294967295 past)
 
     pub start-sent : next < 4294967295 → sends ToAcceptors (Prepare instance (the_round next)) (started (the_round next) value) ≡ start M own c instance floor value
     unfolding start need◌or◌then◌
-    start-sent below = rw (← sound-so, not-false sound fine, ← next-so, lt-ltb next 4294967295 below)
+    start-sent below = rw (← sound-so, fine, ← next-so, lt-ltb next 4294967295 below)
 
 -- ---- promises
 
@@ -45,22 +45,22 @@ module _ (M own : ℕ) (c : Cell) (sender : ℕ) (instance : Instance) (round vo
   promise-9 past = rw (le-ltb sender M past)
 
   module _ (known : sender < M) (sound : Bool) (sound-so : sound ≡ possible M own c) where
-    pub promise-17 : not sound ≡ true → refused 17 ≡ taken
+    pub promise-17 : sound ≡ false → refused 17 ≡ taken
     unfolding take_promise need◌or◌then◌
-    promise-17 impossible = rw (lt-ltb sender M known, ← sound-so, not-true sound impossible)
+    promise-17 impossible = rw (lt-ltb sender M known, ← sound-so, impossible)
 
-    module _ (fine : not sound ≡ false) (same : Bool) (same-so : same ≡ same_round round c.round) where
-      pub promise-11 : not (eqb c.phase asking && same) ≡ true → refused 11 ≡ taken
+    module _ (fine : sound ≡ true) (same : Bool) (same-so : same ≡ same_round round c.round) where
+      pub promise-11 : (eqb c.phase asking && same) ≡ false → refused 11 ≡ taken
       unfolding take_promise need◌or◌then◌
-      promise-11 other = rw (lt-ltb sender M known, ← sound-so, not-false sound fine, ← same-so, not-true (eqb c.phase asking && same) other)
+      promise-11 other = rw (lt-ltb sender M known, ← sound-so, fine, ← same-so, other)
 
-      module _ (current : not (eqb c.phase asking && same) ≡ false) (present : Bool) (present-so : present ≡ has_member c.set sender) where
+      module _ (current : (eqb c.phase asking && same) ≡ true) (present : Bool) (present-so : present ≡ has_member c.set sender) where
         pub promise-15 : present ≡ true → refused 15 ≡ taken
         unfolding take_promise need◌or◌then◌
         promise-15 doubled =
-            rw (lt-ltb sender M known, ← sound-so, not-false sound fine, ← same-so, not-false (eqb c.phase asking && same) current, ← present-so, doubled)
+            rw (lt-ltb sender M known, ← sound-so, fine, ← same-so, current, ← present-so, doubled)
 
         pub promise-counted : present ≡ false → when_majority M instance (counting c sender vote_round value) ≡ taken
         unfolding take_promise need◌or◌then◌
         promise-counted absent =
-            rw (lt-ltb sender M known, ← sound-so, not-false sound fine, ← same-so, not-false (eqb c.phase asking && same) current, ← present-so, absent)
+            rw (lt-ltb sender M known, ← sound-so, fine, ← same-so, current, ← present-so, absent)
