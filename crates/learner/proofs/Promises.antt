@@ -6,7 +6,6 @@ use mathlib.Core.Path.{◌≡◌, refl, sym, ap, ◌∙◌, subst}
 use mathlib.Core.Bool.{true, false≢true}
 use mathlib.Core.List.{List, [], ◌∷◌}
 use native.Mathlib.Decide.{ℕ_discrete}
-use Rattle.basics.specs.declared.Verdict.TheVariants.{Decided}
 use Rattle.basics.proofs.Ladder.{if-elim}
 use Rattle.messages.specs.declared.Message.{Message}
 use Rattle.messages.specs.Message.{fields_of}

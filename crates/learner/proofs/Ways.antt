@@ -1,12 +1,11 @@
 -- Each way out of the learner's step and of its answer is what the definitions say, by the tests that led there.
 -- Assumes nothing.
 use Prim.Native.Nat.{ℕ}
-use mathlib.Core.Path.{◌≡◌, refl}
+use mathlib.Core.Path.{◌≡◌, refl, ap}
 use mathlib.Core.Bool.{Bool, true, false, not}
 use mathlib.Core.List.{List, [], ◌∷◌}
 use denote.Enum.Declared.{tag_of}
 use types.Run.{OneOf}
-use borrow.Author.Tests.{not-true, not-false}
 use Rattle.basics.specs.Outcome.{Outcome, outcome, Lent, lent}
 use Rattle.basics.specs.declared.Instance.{Instance}
 use Rattle.basics.specs.declared.Place.{Place}
@@ -16,7 +15,7 @@ use Rattle.basics.specs.declared.Value.{Value}
 use Rattle.basics.specs.declared.Verdict.TheVariants.{Hold, Decided, Done, NotYet}
 use Rattle.basics.specs.Places.{placed, nowhere_of}
 use Rattle.basics.specs.Verdict.{verdict_number}
-use Rattle.basics.specs.Ladder.{if◌then◌else◌, need◌or◌then◌}
+use Rattle.basics.specs.Ladder.{when◌then◌else◌, need◌or◌then◌}
 use Rattle.messages.specs.declared.Message.{Message}
 use Rattle.messages.specs.declared.Message.TheVariants.{Vote}
 use Rattle.messages.specs.Message.{when_vote}
@@ -56,20 +55,20 @@ module _ (packet : List ℕ) (t : Tables) (index : ℕ) (r : Ruled) where
 -- ---- the step
 
 module _ (s : Settings) (packet : List ℕ) (t : Tables) (fine : Bool) (fine-so : fine ≡ learner_allowed s t) where
-  pub step-7 : not fine ≡ true → unchanged packet t 7 ≡ learner_step s packet t
+  pub step-7 : fine ≡ false → unchanged packet t 7 ≡ learner_step s packet t
   unfolding learner_step learner
-  step-7 no_way = steps.refused-7 (learner s) packet t fine fine-so no_way
+  step-7 no_way = steps.refused-7 (learner s) packet t fine fine-so (ap not no_way)
 
-  module _ (passed : not fine ≡ false) where
+  module _ (passed : fine ≡ true) where
     module _ (reading : Reading) (reading-so : reading ≡ read_packet packet) where
       pub malformed : (number answer : ℕ) → reading ≡ Refused number → answer ≡ refusal_of reading → unchanged packet t answer ≡ learner_step s packet t
       unfolding learner_step learner
-      malformed number answer refuses answer-so = steps.malformed (learner s) packet t fine fine-so passed reading reading-so number answer refuses answer-so
+      malformed number answer refuses answer-so = steps.malformed (learner s) packet t fine fine-so (ap not passed) reading reading-so number answer refuses answer-so
 
       module _ (m : Message) (reads : reading ≡ Read m) where
         acted : (o : Outcome (Lent Tables)) → o ≡ act (learner s) packet t m → o ≡ learner_step s packet t
         unfolding learner_step learner
-        acted o o-so = steps.acted (learner s) packet t fine fine-so passed reading reading-so m o reads o-so
+        acted o o-so = steps.acted (learner s) packet t fine fine-so (ap not passed) reading reading-so m o reads o-so
 
         pub step-6 : OneOf (0 ∷ 1 ∷ 2 ∷ 3 ∷ []) (tag_of the_type m) → unchanged packet t 6 ≡ learner_step s packet t
         unfolding learner act place
@@ -96,32 +95,32 @@ module _ (s : Settings) (packet : List ℕ) (t : Tables) (fine : Bool) (fine-so 
 -- ---- the answer for an instance
 
 module _ (M : ℕ) (c : Cell) (sound : Bool) (sound-so : sound ≡ possible M c) where
-  pub cell-17 : not sound ≡ true → answers.Refused 17 ≡ answer_of_cell M c
+  pub cell-17 : sound ≡ false → answers.Refused 17 ≡ answer_of_cell M c
   unfolding answer_of_cell need◌or◌then◌
-  cell-17 impossible = rw (← sound-so, not-true sound impossible)
+  cell-17 impossible = rw (← sound-so, impossible)
 
-  module _ (fine : not sound ≡ false) (decided : Bool) (decided-so : decided ≡ is_decided M c) where
+  module _ (fine : sound ≡ true) (decided : Bool) (decided-so : decided ≡ is_decided M c) where
     pub cell-decided : decided ≡ true → (value : Value) → value ≡ value_of M c → answers.Decided value ≡ answer_of_cell M c
-    unfolding answer_of_cell need◌or◌then◌ if◌then◌else◌
-    cell-decided over value value-so = rw (← sound-so, not-false sound fine, ← decided-so, over, value-so)
+    unfolding answer_of_cell need◌or◌then◌ when◌then◌else◌
+    cell-decided over value value-so = rw (← sound-so, fine, ← decided-so, over, value-so)
 
     pub cell-not-yet : decided ≡ false → answers.NotYet ≡ answer_of_cell M c
-    unfolding answer_of_cell need◌or◌then◌ if◌then◌else◌
-    cell-not-yet open-still = rw (← sound-so, not-false sound fine, ← decided-so, open-still)
+    unfolding answer_of_cell need◌or◌then◌ when◌then◌else◌
+    cell-not-yet open-still = rw (← sound-so, fine, ← decided-so, open-still)
 
 module _ (s : Settings) (instance : Instance) (t : Tables) (fine : Bool) (fine-so : fine ≡ learner_allowed s t) where
-  pub answer-7 : not fine ≡ true → answers.Refused 7 ≡ answer_for s instance t
+  pub answer-7 : fine ≡ false → answers.Refused 7 ≡ answer_for s instance t
   unfolding answer_for need◌or◌then◌
-  answer-7 no_way = rw (← fine-so, not-true fine no_way)
+  answer-7 no_way = rw (← fine-so, no_way)
 
-  module _ (passed : not fine ≡ false) (place : Place) (place-so : place ≡ placed s.instances instance) where
+  module _ (passed : fine ≡ true) (place : Place) (place-so : place ≡ placed s.instances instance) where
     pub answer-nowhere : (number refusal : ℕ) → place ≡ Nowhere number → refusal ≡ nowhere_of place → answers.Refused refusal ≡ answer_for s instance t
     unfolding answer_for answer_at need◌or◌then◌
-    answer-nowhere number refusal no_place refusal-so = rw (← fine-so, not-false fine passed, ← place-so, refusal-so, no_place)
+    answer-nowhere number refusal no_place refusal-so = rw (← fine-so, passed, ← place-so, refusal-so, no_place)
 
     pub answer-there : (index : ℕ) (c : Cell) (r : Answer) → place ≡ At index → c ≡ cell_at t index → r ≡ answer_of_cell s.acceptors c → r ≡ answer_for s instance t
     unfolding answer_for answer_at need◌or◌then◌
-    answer-there index c r stands c-so r-so = rw (← fine-so, not-false fine passed, ← place-so, stands, r-so, c-so)
+    answer-there index c r stands c-so r-so = rw (← fine-so, passed, ← place-so, stands, r-so, c-so)
 
 -- the answer, as the call leaves it
 module _ (before : Value) (a : Answer) (number : ℕ) where

@@ -2,12 +2,12 @@
 -- Assumes nothing.
 use Prim.Native.Nat.{ℕ, zero, suc, ◌+◌, ◌*◌, ◌≤◌, ◌<◌}
 use mathlib.Core.Path.{◌≡◌, refl, sym, ap, ◌∙◌}
-use mathlib.Core.Bool.{Bool, true, false, not}
+use mathlib.Core.Bool.{Bool, true, false}
 use mathlib.Core.List.{List, [], ◌∷◌, ◌++◌, append_assoc, append-nil}
 use native.Mathlib.Omega.{arith}
 use native.Mathlib.Numerals.{add-one}
 use lib.ListN.{length, length-append}
-use borrow.Author.Tests.{not-true, not-false, ne_eqb, eq-eqb}
+use borrow.Author.Tests.{ne_eqb, eq-eqb}
 use Rattle.basics.specs.Outcome.{outcome, Lent, lent}
 use Rattle.numbers.specs.BigEndian.{to_bytes, with_number_at}
 use Rattle.numbers.specs.Fronts.{with_front}
@@ -15,7 +15,7 @@ use Rattle.numbers.proofs.Bytes.{length-to_bytes}
 use Rattle.numbers.proofs.Fronts.{number-next}
 use Rattle.basics.specs.declared.Value.{Value}
 use Rattle.basics.specs.declared.Verdict.TheVariants.{Done}
-use Rattle.basics.specs.Ladder.{if◌then◌else◌, need◌or◌then◌}
+use Rattle.basics.specs.Ladder.{when◌then◌else◌, need◌or◌then◌}
 use Rattle.basics.specs.Verdict.{verdict_number}
 use Rattle.player.specs.Step.{unchanged}
 use Rattle.quorum.specs.declared.Settings.{Settings}
@@ -81,18 +81,18 @@ module _ (M : ℕ) (t : Tables) (count instances : ℕ) where
   split-past past = ap (λ cs. values_before M t count ++ delivered M cs) (cells-end (cell_at t) count instances past) ∙ append-nil (values_before M t count)
 
 module _ (M : ℕ) (t : Tables) (count instances : ℕ) (inside : count < instances) (c : Cell) (c-so : c ≡ cell_at t count) (decided : Bool) (decided-so : decided ≡ is_decided M c) where
-  pub split-stops : not decided ≡ true → split M t count instances ≡ values_before M t count
-  unfolding delivered if◌then◌else◌
+  pub split-stops : decided ≡ false → split M t count instances ≡ values_before M t count
+  unfolding delivered when◌then◌else◌
   split-stops undecided =
-      let none : delivered M (cells_left (cell_at t) count instances) ≡ [] = rw (cells-next (cell_at t) count instances inside, ← c-so, ← decided-so, not-true decided undecided) in
+      let none : delivered M (cells_left (cell_at t) count instances) ≡ [] = rw (cells-next (cell_at t) count instances inside, ← c-so, ← decided-so, undecided) in
       ap (λ values. values_before M t count ++ values) none ∙ append-nil (values_before M t count)
 
-  pub split-next : not decided ≡ false → split M t count instances ≡ split M t (count + 1) instances
-  unfolding delivered if◌then◌else◌
+  pub split-next : decided ≡ true → split M t count instances ≡ split M t (count + 1) instances
+  unfolding delivered when◌then◌else◌
   split-next over =
       let left = delivered M (cells_left (cell_at t) (count + 1) instances) in
       let more : delivered M (cells_left (cell_at t) count instances) ≡ value_of M (cell_at t count) ∷ left =
-      rw (cells-next (cell_at t) count instances inside, ← ap (is_decided M) c-so, ← decided-so, not-false decided over) in
+      rw (cells-next (cell_at t) count instances inside, ← ap (is_decided M) c-so, ← decided-so, over) in
       ap (λ values. values_before M t count ++ values) more ∙ sym (append_assoc (values_before M t count) (value_of M (cell_at t count) ∷ []) left)
       ∙ ap (λ values. values ++ left) (sym (values-next M t count))
 
@@ -128,23 +128,23 @@ walk-done M t count instances buffer now now-so all_so = rw (all_so, now-so, len
 -- ---- the ways out of the call
 
 module _ (s : Settings) (t : Tables) (count : ℕ) (buffer : List ℕ) (fine : Bool) (fine-so : fine ≡ learner_allowed s t) where
-  pub deliver-7 : not fine ≡ true → unchanged buffer count 7 ≡ deliver s t buffer count
+  pub deliver-7 : fine ≡ false → unchanged buffer count 7 ≡ deliver s t buffer count
   unfolding deliver need◌or◌then◌
-  deliver-7 no_way = rw (← fine-so, not-true fine no_way)
+  deliver-7 no_way = rw (← fine-so, no_way)
 
-  module _ (passed : not fine ≡ false) where
+  module _ (passed : fine ≡ true) where
     pub deliver-1 : (length buffer ≡ 16 * s.instances → ⊥) → unchanged buffer count 1 ≡ deliver s t buffer count
     unfolding deliver need◌or◌then◌
-    deliver-1 other = rw (← fine-so, not-false fine passed, ne_eqb (length buffer) (16 * s.instances) other)
+    deliver-1 other = rw (← fine-so, passed, ne_eqb (length buffer) (16 * s.instances) other)
 
     module _ (long : length buffer ≡ 16 * s.instances) (sound : Bool) (sound-so : sound ≡ all_possible s.acceptors (cells s t)) where
-      pub deliver-17 : not sound ≡ true → unchanged buffer count 17 ≡ deliver s t buffer count
+      pub deliver-17 : sound ≡ false → unchanged buffer count 17 ≡ deliver s t buffer count
       unfolding deliver need◌or◌then◌
-      deliver-17 impossible = rw (← fine-so, not-false fine passed, eq-eqb (length buffer) (16 * s.instances) long, ← sound-so, not-true sound impossible)
+      deliver-17 impossible = rw (← fine-so, passed, eq-eqb (length buffer) (16 * s.instances) long, ← sound-so, impossible)
 
-      pub deliver-done : not sound ≡ false → (answer : ℕ) (left : Lent ℕ) → answer ≡ verdict_number Done
+      pub deliver-done : sound ≡ true → (answer : ℕ) (left : Lent ℕ) → answer ≡ verdict_number Done
           → left ≡ written_to buffer (delivered s.acceptors (cells s t)) → outcome answer left ≡ deliver s t buffer count
       unfolding deliver need◌or◌then◌
       deliver-done possible answer left answer-so left_so =
           ap (λ n. outcome n left) answer-so ∙ ap (outcome (verdict_number Done)) left_so
-          ∙ rw (← fine-so, not-false fine passed, eq-eqb (length buffer) (16 * s.instances) long, ← sound-so, not-false sound possible)
+          ∙ rw (← fine-so, passed, eq-eqb (length buffer) (16 * s.instances) long, ← sound-so, possible)

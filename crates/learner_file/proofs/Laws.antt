@@ -21,7 +21,7 @@ use Rattle.columns.specs.Walks.{cells_from}
 use Rattle.columns.proofs.Walks.{length-cells}
 use Rattle.quorum.specs.declared.Settings.{Settings}
 use Rattle.learner_cell.specs.declared.Cell.{Cell}
-use Rattle.learner_cell.specs.Cell.{cell, fresh_cell}
+use Rattle.learner_cell.specs.Cell.{cell}
 use Rattle.learner_tables.specs.Tables.{Tables, tables, cell_at, with_cell, first_cells, Sized, Fitting}
 use Rattle.learner_file.specs.File.{header_length, cell_length, saved_length, header, cell_bytes, cell_in, cells_bytes}
 use Rattle.learner_file.specs.File.{saved_from, rounds_of, sets_of, values_of, tables_of, with_bytes, with_cell_bytes, stored_from}

@@ -11,7 +11,7 @@ use native.Mathlib.Omega.{arith}
 use lib.Dec.{ltb}
 use borrow.Author.Tests.{not-true, ltb-true, lt-ltb}
 use Rattle.basics.specs.declared.Verdict.TheVariants.{Done, NoHole}
-use Rattle.basics.specs.Ladder.{if◌then◌else◌}
+use Rattle.basics.specs.Ladder.{when◌then◌else◌}
 use Rattle.basics.specs.Rounds.{the_instance}
 use Rattle.basics.specs.Verdict.{verdict_number}
 use Rattle.basics.proofs.Ladder.{by-test, both_true, and-true, or_left, or_right, or_cases, need-elim, if-true, if-false}
@@ -64,7 +64,7 @@ module _ (M end : ℕ) (t : Tables) where
 module _ (M : ℕ) (t : Tables) where
   -- the end so far, after the instance at a number
   abbrev next-end : (number end : ℕ) → ℕ
-  next-end number end = if is_decided M (cell_at t number) then number + 1 else end
+  next-end number end = when is_decided M (cell_at t number) then number + 1 else end
 
   -- the walk's end: every decided instance is below it, and where it is not the end so far, the one just below it is decided
   record End (number end count result : ℕ) : Type 0 where

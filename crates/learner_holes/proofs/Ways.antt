@@ -2,10 +2,9 @@
 -- Assumes nothing.
 use Prim.Native.Nat.{ℕ, ◌+◌, ◌≤◌, ◌<◌}
 use mathlib.Core.Path.{◌≡◌, sym, ap, ◌∙◌}
-use mathlib.Core.Bool.{Bool, true, false, not}
-use borrow.Author.Tests.{not-true, not-false}
+use mathlib.Core.Bool.{Bool, true, false}
 use Rattle.basics.specs.declared.Verdict.TheVariants.{Done, NoHole}
-use Rattle.basics.specs.Ladder.{if◌then◌else◌, need◌or◌then◌}
+use Rattle.basics.specs.Ladder.{when◌then◌else◌, need◌or◌then◌}
 use Rattle.basics.specs.Rounds.{the_instance}
 use Rattle.basics.proofs.Ladder.{if-true, if-false}
 use Rattle.basics.specs.Verdict.{verdict_number}
@@ -39,11 +38,11 @@ module _ (M end : ℕ) (at : (index : ℕ) → Cell) (number count : ℕ) where
 
     module _ (is : Bool) (is-so : is ≡ is_hole M end number c) where
       pub hole-here : is ≡ true → holes.Found (the_instance number) ≡ first_hole_from M end number (cells_left at number count)
-      unfolding first_hole_from if◌then◌else◌
+      unfolding first_hole_from when◌then◌else◌
       hole-here yes-so = rw (cells-next at number count inside, ← c-so, ← is-so, yes-so)
 
       pub hole-later : is ≡ false → first_hole_from M end number (cells_left at number count) ≡ first_hole_from M end (number + 1) (cells_left at (number + 1) count)
-      unfolding first_hole_from if◌then◌else◌
+      unfolding first_hole_from when◌then◌else◌
       hole-later no-so = rw (cells-next at number count inside, ← c-so, ← is-so, no-so)
 
   module _ (past : count ≤ number) where
@@ -62,18 +61,18 @@ walk_begins M at count end end-so = ap (λ k. first_hole_from M k 0 (cells_from 
 -- ---- the ways out of the call
 
 module _ (s : Settings) (t : Tables) (fine : Bool) (fine-so : fine ≡ learner_allowed s t) where
-  pub hole-7 : not fine ≡ true → holes.Refused 7 ≡ find_hole s t
+  pub hole-7 : fine ≡ false → holes.Refused 7 ≡ find_hole s t
   unfolding find_hole need◌or◌then◌
-  hole-7 no_way = rw (← fine-so, not-true fine no_way)
+  hole-7 no_way = rw (← fine-so, no_way)
 
-  module _ (passed : not fine ≡ false) (sound : Bool) (sound-so : sound ≡ all_possible s.acceptors (cells s t)) where
-    pub hole-17 : not sound ≡ true → holes.Refused 17 ≡ find_hole s t
+  module _ (passed : fine ≡ true) (sound : Bool) (sound-so : sound ≡ all_possible s.acceptors (cells s t)) where
+    pub hole-17 : sound ≡ false → holes.Refused 17 ≡ find_hole s t
     unfolding find_hole need◌or◌then◌
-    hole-17 impossible = rw (← fine-so, not-false fine passed, ← sound-so, not-true sound impossible)
+    hole-17 impossible = rw (← fine-so, passed, ← sound-so, impossible)
 
-    pub hole-walked : not sound ≡ false → (r : Hole) → r ≡ first_hole s.acceptors (cells s t) → r ≡ find_hole s t
+    pub hole-walked : sound ≡ true → (r : Hole) → r ≡ first_hole s.acceptors (cells s t) → r ≡ find_hole s t
     unfolding find_hole need◌or◌then◌
-    hole-walked possible r r-so = rw (← fine-so, not-false fine passed, ← sound-so, not-false sound possible, r-so)
+    hole-walked possible r r-so = rw (← fine-so, passed, ← sound-so, possible, r-so)
 
 module _ (before : ℕ) (h : Hole) (number : ℕ) where
   pub answered-found : (i : Instance) → h ≡ holes.Found i → number ≡ verdict_number Done → outcome number i.0 ≡ answered before h

@@ -2,11 +2,11 @@
 -- Assumes nothing.
 use Prim.Native.Nat.{ℕ, ◌≤◌, ◌<◌}
 use mathlib.Core.Path.{◌≡◌, sym, ◌∙◌}
-use mathlib.Core.Bool.{Bool, true, false, not}
-use borrow.Author.Tests.{not-true, not-false, lt-ltb, le-ltb}
+use mathlib.Core.Bool.{Bool, true, false}
+use borrow.Author.Tests.{lt-ltb, le-ltb}
 use Rattle.basics.specs.declared.Round.{Round}
 use Rattle.basics.specs.declared.Value.{Value}
-use Rattle.basics.specs.Ladder.{if◌then◌else◌, need◌or◌then◌}
+use Rattle.basics.specs.Ladder.{when◌then◌else◌, need◌or◌then◌}
 use Rattle.basics.proofs.Ladder.{if-true, if-false}
 use Rattle.basics.specs.Rounds.{same_round, at_most}
 use Rattle.basics.specs.Values.{same_value}
@@ -25,42 +25,42 @@ module _ (M : ℕ) (c : Cell) (sender : ℕ) (round : Round) (value : Value) whe
   vote-9 past = rw (le-ltb sender M past)
 
   module _ (known : sender < M) (sound : Bool) (sound-so : sound ≡ possible M c) where
-    pub vote-17 : not sound ≡ true → refused 17 ≡ counted
+    pub vote-17 : sound ≡ false → refused 17 ≡ counted
     unfolding count_vote need◌or◌then◌
-    vote-17 impossible = rw (lt-ltb sender M known, ← sound-so, not-true sound impossible)
+    vote-17 impossible = rw (lt-ltb sender M known, ← sound-so, impossible)
 
-    module _ (fine : not sound ≡ false) (decided : Bool) (decided-so : decided ≡ is_decided M c) where
+    module _ (fine : sound ≡ true) (decided : Bool) (decided-so : decided ≡ is_decided M c) where
       pub vote-14 : decided ≡ true → refused 14 ≡ counted
       unfolding count_vote need◌or◌then◌
-      vote-14 over = rw (lt-ltb sender M known, ← sound-so, not-false sound fine, ← decided-so, over)
+      vote-14 over = rw (lt-ltb sender M known, ← sound-so, fine, ← decided-so, over)
 
       module _ (undecided : decided ≡ false) (low : Bool) (low-so : low ≡ at_most c.round round) where
-        pub vote-10 : not low ≡ true → refused 10 ≡ counted
+        pub vote-10 : low ≡ false → refused 10 ≡ counted
         unfolding count_vote need◌or◌then◌
-        vote-10 below = rw (lt-ltb sender M known, ← sound-so, not-false sound fine, ← decided-so, undecided, ← low-so, not-true low below)
+        vote-10 below = rw (lt-ltb sender M known, ← sound-so, fine, ← decided-so, undecided, ← low-so, below)
 
-        module _ (at_least_lem : not low ≡ false) (same : Bool) (same-so : same ≡ same_round round c.round) where
+        module _ (at_least_lem : low ≡ true) (same : Bool) (same-so : same ≡ same_round round c.round) where
           -- past 10, a vote of a higher round replaces and one of the same round is added
-          past-10 : (if same then add_voter M c sender round value else hold_or_decide M (with_voter 0 sender round value)) ≡ counted
+          past-10 : (when same then add_voter M c sender round value else hold_or_decide M (with_voter 0 sender round value)) ≡ counted
           unfolding count_vote need◌or◌then◌
-          past-10 = rw (lt-ltb sender M known, ← sound-so, not-false sound fine, ← decided-so, undecided, ← low-so, not-false low at_least_lem, same-so)
+          past-10 = rw (lt-ltb sender M known, ← sound-so, fine, ← decided-so, undecided, ← low-so, at_least_lem, same-so)
 
-          pub vote-higher : not same ≡ true → hold_or_decide M (with_voter 0 sender round value) ≡ counted
-          vote-higher higher = sym (if-false _ _ (not-true same higher)) ∙ past-10
+          pub vote-higher : same ≡ false → hold_or_decide M (with_voter 0 sender round value) ≡ counted
+          vote-higher higher = sym (if-false _ _ higher) ∙ past-10
 
-          pub vote-added : (r : Ruling Cell) → not same ≡ false → r ≡ add_voter M c sender round value → r ≡ counted
-          vote-added r equal r-so = r-so ∙ sym (if-true _ _ (not-false same equal)) ∙ past-10
+          pub vote-added : (r : Ruling Cell) → same ≡ true → r ≡ add_voter M c sender round value → r ≡ counted
+          vote-added r equal r-so = r-so ∙ sym (if-true _ _ equal) ∙ past-10
 
 module _ (M : ℕ) (c : Cell) (sender : ℕ) (round : Round) (value : Value) (agrees : Bool) (agrees-so : agrees ≡ same_value value c.value) where
-  pub added-13 : not agrees ≡ true → refused 13 ≡ add_voter M c sender round value
+  pub added-13 : agrees ≡ false → refused 13 ≡ add_voter M c sender round value
   unfolding add_voter need◌or◌then◌
-  added-13 other = rw (← agrees-so, not-true agrees other)
+  added-13 other = rw (← agrees-so, other)
 
-  module _ (agreed : not agrees ≡ false) (present : Bool) (present-so : present ≡ has_member c.set sender) where
+  module _ (agreed : agrees ≡ true) (present : Bool) (present-so : present ≡ has_member c.set sender) where
     pub added-15 : present ≡ true → refused 15 ≡ add_voter M c sender round value
     unfolding add_voter need◌or◌then◌
-    added-15 doubled = rw (← agrees-so, not-false agrees agreed, ← present-so, doubled)
+    added-15 doubled = rw (← agrees-so, agreed, ← present-so, doubled)
 
     pub added-counted : present ≡ false → hold_or_decide M (with_voter c.set sender round value) ≡ add_voter M c sender round value
     unfolding add_voter need◌or◌then◌
-    added-counted absent = rw (← agrees-so, not-false agrees agreed, ← present-so, absent)
+    added-counted absent = rw (← agrees-so, agreed, ← present-so, absent)

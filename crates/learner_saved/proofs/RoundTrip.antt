@@ -20,7 +20,7 @@ use Rattle.learner_file.specs.File.{header_length, cell_length, saved_length, he
 use Rattle.columns.proofs.Walks.{cell-of}
 use Rattle.learner_file.proofs.Laws.{length-header, tables-of-cells, saved-sized, cells-saved}
 use Rattle.learner_file.proofs.RoundTrip.{header-marked, header-version, header-settings, header_back, cells-back, cells-bytes-back}
-use Rattle.learner_saved.specs.Saved.{version, saved_table, saved_cells, save}
+use Rattle.learner_saved.specs.Saved.{version, saved_table, saved_cells}
 use Rattle.learner_saved.specs.Promises.{SaveThenRead, ReadThenSave, SavedCellStands, SetBits, Savable, Readable}
 use Rattle.learner_saved.proofs.Promises.{length-saved, savable-saves, saved-savable, readable-reads, read-readable}
 

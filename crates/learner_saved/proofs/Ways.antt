@@ -2,11 +2,11 @@
 -- Assumes nothing.
 use Prim.Native.Nat.{ℕ, ◌≤◌, ◌<◌}
 use mathlib.Core.Path.{◌≡◌, sym, ap, ◌∙◌}
-use mathlib.Core.Bool.{Bool, true, false, not}
+use mathlib.Core.Bool.{Bool, true, false}
 use mathlib.Core.List.{List, ◌++◌}
 use lib.Dec.{eqb, leb}
 use lib.ListN.{length}
-use borrow.Author.Tests.{not-true, not-false, eq-eqb, ne_eqb, le-leb, lt-leb}
+use borrow.Author.Tests.{eq-eqb, ne_eqb, le-leb, lt-leb}
 use Rattle.basics.specs.declared.Verdict.TheVariants.{Done}
 use Rattle.basics.specs.Ladder.{need◌or◌then◌}
 use Rattle.basics.specs.Outcome.{outcome, lent}
@@ -21,21 +21,21 @@ use Rattle.learner_file.proofs.Laws.{file-stored, tables-stored}
 use Rattle.learner_saved.specs.Saved.{version, saved_table, saved_cells, save, read_saved}
 
 -- what settings and tables bring that the code finds allowed
-pub brings : (s : Settings) (t : Tables) (fine : Bool) → fine ≡ learner_allowed s t → not fine ≡ false → Allowed s t
-brings s t fine fine-so passes = allowed-tables s t (sym fine-so ∙ not-false fine passes)
+pub brings : (s : Settings) (t : Tables) (fine : Bool) → fine ≡ learner_allowed s t → fine ≡ true → Allowed s t
+brings s t fine fine-so passes = allowed-tables s t (sym fine-so ∙ passes)
 
 module _ (s : Settings) (bytes : List ℕ) (t : Tables) (fine : Bool) (fine-so : fine ≡ learner_allowed s t) where
-  pub save-7 : not fine ≡ true → unchanged bytes t 7 ≡ save s bytes t
+  pub save-7 : fine ≡ false → unchanged bytes t 7 ≡ save s bytes t
   unfolding save need◌or◌then◌
-  save-7 fails = rw (← fine-so, not-true fine fails)
+  save-7 fails = rw (← fine-so, fails)
 
-  pub read-7 : not fine ≡ true → unchanged bytes t 7 ≡ read_saved s bytes t
+  pub read-7 : fine ≡ false → unchanged bytes t 7 ≡ read_saved s bytes t
   unfolding read_saved need◌or◌then◌
-  read-7 fails = rw (← fine-so, not-true fine fails)
+  read-7 fails = rw (← fine-so, fails)
 
-  module _ (passes : not fine ≡ false) where
+  module _ (passes : fine ≡ true) where
     fine-is : learner_allowed s t ≡ true
-    fine-is = sym fine-so ∙ not-false fine passes
+    fine-is = sym fine-so ∙ passes
 
     -- ---- saving
 
@@ -48,18 +48,18 @@ module _ (s : Settings) (bytes : List ℕ) (t : Tables) (fine : Bool) (fine-so :
         whole_is : eqb (length bytes) (saved_length s.instances) ≡ true
         whole_is = eq-eqb (length bytes) (saved_length s.instances) (whole ∙ long-so)
 
-        pub save-17 : not possible ≡ true → unchanged bytes t 17 ≡ save s bytes t
+        pub save-17 : possible ≡ false → unchanged bytes t 17 ≡ save s bytes t
         unfolding save need◌or◌then◌
-        save-17 fails = rw (fine-is, whole_is, ← possible-so, not-true possible fails)
+        save-17 fails = rw (fine-is, whole_is, ← possible-so, fails)
 
-        pub saves : not possible ≡ false → (headed left : List ℕ) (answer : ℕ) → headed ≡ with_bytes bytes 0 (header version s)
+        pub saves : possible ≡ true → (headed left : List ℕ) (answer : ℕ) → headed ≡ with_bytes bytes 0 (header version s)
             → left ≡ stored_from with_cell_bytes headed 0 (cells s t) → answer ≡ verdict_number Done → outcome answer (lent left t) ≡ save s bytes t
         unfolding save need◌or◌then◌ saved_table
         saves judged headed left answer headed-so left_so answer-so =
             let many = length-cells (cell_at t) 0 s.instances in
             let saved : left ≡ header version s ++ cells_bytes (cells s t) =
             left_so ∙ ap (λ b. stored_from with_cell_bytes b 0 (cells s t)) headed-so ∙ file-stored version s bytes s.instances (whole ∙ long-so) (cells s t) many in
-            rw (fine-is, whole_is, ← possible-so, not-false possible judged, answer-so, saved)
+            rw (fine-is, whole_is, ← possible-so, judged, answer-so, saved)
 
     -- ---- reading
 
@@ -71,13 +71,13 @@ module _ (s : Settings) (bytes : List ℕ) (t : Tables) (fine : Bool) (fine-so :
       holds-is : leb header_length (length bytes) ≡ true
       holds-is = le-leb header_length (length bytes) holds
 
-      pub read-2 : not mark ≡ true → unchanged bytes t 2 ≡ read_saved s bytes t
+      pub read-2 : mark ≡ false → unchanged bytes t 2 ≡ read_saved s bytes t
       unfolding read_saved need◌or◌then◌
-      read-2 wrong = rw (fine-is, holds-is, ← mark-so, not-true mark wrong)
+      read-2 wrong = rw (fine-is, holds-is, ← mark-so, wrong)
 
-      module _ (right : not mark ≡ false) (given : ℕ) (given_so : given ≡ version_in bytes) where
+      module _ (right : mark ≡ true) (given : ℕ) (given_so : given ≡ version_in bytes) where
         mark-is : marked bytes ≡ true
-        mark-is = sym mark-so ∙ not-false mark right
+        mark-is = sym mark-so ∙ right
 
         pub read-3 : (given ≡ version → ⊥) → unchanged bytes t 3 ≡ read_saved s bytes t
         unfolding read_saved need◌or◌then◌
@@ -87,13 +87,13 @@ module _ (s : Settings) (bytes : List ℕ) (t : Tables) (fine : Bool) (fine-so :
           version-is : eqb (version_in bytes) version ≡ true
           version-is = eq-eqb (version_in bytes) version (sym given_so ∙ same)
 
-          pub read-unlike : not like ≡ true → unchanged bytes t 7 ≡ read_saved s bytes t
+          pub read-unlike : like ≡ false → unchanged bytes t 7 ≡ read_saved s bytes t
           unfolding read_saved need◌or◌then◌
-          read-unlike fails = rw (fine-is, holds-is, mark-is, version-is, ← like-so, not-true like fails)
+          read-unlike fails = rw (fine-is, holds-is, mark-is, version-is, ← like-so, fails)
 
-          module _ (alike : not like ≡ false) (long : ℕ) (long-so : long ≡ saved_length s.instances) where
+          module _ (alike : like ≡ true) (long : ℕ) (long-so : long ≡ saved_length s.instances) where
             like_is : same_settings s bytes ≡ true
-            like_is = sym like-so ∙ not-false like alike
+            like_is = sym like-so ∙ alike
 
             pub read-1 : (length bytes ≡ long → ⊥) → unchanged bytes t 1 ≡ read_saved s bytes t
             unfolding read_saved need◌or◌then◌
@@ -104,15 +104,15 @@ module _ (s : Settings) (bytes : List ℕ) (t : Tables) (fine : Bool) (fine-so :
               all-is : eqb (length bytes) (saved_length s.instances) ≡ true
               all-is = eq-eqb (length bytes) (saved_length s.instances) (whole ∙ long-so)
 
-              pub read-17 : not possible ≡ true → unchanged bytes t 17 ≡ read_saved s bytes t
+              pub read-17 : possible ≡ false → unchanged bytes t 17 ≡ read_saved s bytes t
               unfolding read_saved need◌or◌then◌
-              read-17 fails = rw (fine-is, holds-is, mark-is, version-is, like_is, all-is, ← possible-so, not-true possible fails)
+              read-17 fails = rw (fine-is, holds-is, mark-is, version-is, like_is, all-is, ← possible-so, fails)
 
-              pub reads : not possible ≡ false → (left : Tables) (answer : ℕ) → left ≡ stored_from with_cell t 0 (saved_cells s bytes) → answer ≡ verdict_number Done
+              pub reads : possible ≡ true → (left : Tables) (answer : ℕ) → left ≡ stored_from with_cell t 0 (saved_cells s bytes) → answer ≡ verdict_number Done
                   → outcome answer (lent bytes left) ≡ read_saved s bytes t
               unfolding read_saved need◌or◌then◌
               reads judged left answer left_so answer-so =
                   let many = length-cells (saved_cell bytes) 0 s.instances in
                   let replaced : left ≡ tables_of (saved_cells s bytes) =
                   left_so ∙ tables-stored s.instances t (allowed-tables s t fine-is).sized (saved_cells s bytes) many in
-                  rw (fine-is, holds-is, mark-is, version-is, like_is, all-is, ← possible-so, not-false possible judged, answer-so, replaced)
+                  rw (fine-is, holds-is, mark-is, version-is, like_is, all-is, ← possible-so, judged, answer-so, replaced)

@@ -3,10 +3,9 @@
 -- Assumes nothing.
 use Prim.Native.Nat.{ℕ}
 use mathlib.Core.Path.{◌≡◌, sym, ◌∙◌}
-use mathlib.Core.Bool.{Bool, true, false, not}
+use mathlib.Core.Bool.{Bool, true, false}
 use mathlib.Core.List.{List}
 use lib.ListN.{length, replicate}
-use borrow.Author.Tests.{not-false}
 use Rattle.basics.specs.declared.Verdict.TheVariants.{Done}
 use Rattle.basics.specs.Outcome.{outcome}
 use Rattle.basics.specs.Rounds.{none}
@@ -17,15 +16,15 @@ use Rattle.learner_tables.specs.Tables.{Tables, tables, fresh_tables, learner_al
 use Rattle.learner_tables.proofs.Laws.{allowed-tables}
 
 module _ (s : Settings) (t : Tables) (fine : Bool) (fine-so : fine ≡ learner_allowed s t) where
-  pub refused-7 : not fine ≡ true → outcome 7 t ≡ learner_fresh s t
+  pub refused-7 : fine ≡ false → outcome 7 t ≡ learner_fresh s t
   unfolding learner_fresh
   refused-7 no_way = fresh-refused t (fresh_tables s.instances) fine-so no_way
 
-  pub filled : not fine ≡ false → (answer : ℕ) (rounds sets values : List ℕ) → answer ≡ verdict_number Done → rounds ≡ replicate (length t.rounds) none.0
+  pub filled : fine ≡ true → (answer : ℕ) (rounds sets values : List ℕ) → answer ≡ verdict_number Done → rounds ≡ replicate (length t.rounds) none.0
       → sets ≡ replicate (length t.sets) 0 → values ≡ replicate (length t.values) 0
       → outcome answer (tables rounds sets values) ≡ learner_fresh s t
   unfolding learner_fresh
   filled passed answer rounds sets values answer-so rounds-so sets-so values-so =
-      let sized = (allowed-tables s t (sym fine-so ∙ not-false fine passed)).sized in
+      let sized = (allowed-tables s t (sym fine-so ∙ passed)).sized in
       fresh-done t (fresh_tables s.instances) fine-so passed answer-so
       (rw (rounds-so, sets-so, values-so, sized.of_rounds, sized.of_sets, sized.of_values))
