@@ -1,7 +1,7 @@
 -- A line is a command exactly if it has one of the forms. From the forms: a name and digits have no space, so a line is cut where the form joins it.
 -- To the forms: a line that has something behind its first space is the first word, the space and that, and a test that passed says what the word is.
 -- Assumes nothing.
-use Prim.Native.Nat.{ℕ, zero, suc, ◌+◌, ◌-◌, ◌≤◌, ◌<◌}
+use Prim.Native.Nat.{ℕ, zero, suc, ◌≤◌, ◌<◌}
 use mathlib.Core.Path.{◌≡◌, refl, sym, ap, subst, ◌∙◌}
 use mathlib.Core.Bool.{true, false, ◌&&◌, not, false≢true}
 use mathlib.Core.List.{List, [], ◌∷◌, ◌++◌}
@@ -9,7 +9,7 @@ use native.Mathlib.Omega.{arith}
 use lib.Dec.{eqb, leb, ltb}
 use lib.ListN.{length, get_or, length-append}
 use borrow.Author.Tests.{not-true, eqb-true, leb-true, ltb-true, ne_eqb}
-use Rattle.basics.specs.Ladder.{if◌then◌else◌, need◌or◌then◌}
+use Rattle.basics.specs.Ladder.{when◌then◌else◌, need◌or◌then◌}
 use Rattle.basics.proofs.Ladder.{by-test, if-elim, need-elim, both_true}
 use Rattle.bench_lines.specs.declared.Command.{Command}
 use Rattle.bench_lines.specs.declared.Command.TheVariants.{Primary, Acceptor, Backup, Learner, Start, Bad}
@@ -24,7 +24,7 @@ use Rattle.bench_lines.proofs.Digits.{hex-brings, decimal-brings, decimal-digits
 
 -- a digit is no space
 no-space : (base byte : ℕ) → base ≤ 16 → digit_of byte < base → eqb byte space ≡ false
-unfolding digit_of if◌then◌else◌
+unfolding digit_of when◌then◌else◌
 no-space base byte few small = ne_eqb byte space (λ same. let sixteen : digit_of byte ≡ 16 = ap digit_of same in omega arith)
 
 module _ (base : ℕ) (few : base ≤ 16) (rest : List ℕ) where
@@ -52,7 +52,7 @@ record Named (name rest : List ℕ) (player : Command) : Type 0 where
   short : length name ≤ 2
 
 named-so : (name rest : List ℕ) (player : Command) → PlayerName name player → Named name rest player
-unfolding first_word rest_of player_of is_letter is_numbered digit_of is_bad if◌then◌else◌
+unfolding first_word rest_of player_of is_letter is_numbered digit_of is_bad when◌then◌else◌
 named-so name rest player the_primary = record { first = refl; behind = refl; named = refl; fine = refl; short = omega arith }
 named-so name rest player (an_acceptor zero most) = record { first = refl; behind = refl; named = refl; fine = refl; short = omega arith }
 named-so name rest player (an_acceptor (suc zero) most) = record { first = refl; behind = refl; named = refl; fine = refl; short = omega arith }
@@ -74,7 +74,7 @@ record Starter (own : ℕ) (rest : List ℕ) : Type 0 where
   number : own_of (start_letter ∷ digit_byte own ∷ []) ≡ own
 
 starter-so : (own : ℕ) (rest : List ℕ) → 1 ≤ own → own ≤ 3 → Starter own rest
-unfolding first_word rest_of player_of is_letter is_numbered digit_of is_bad if◌then◌else◌
+unfolding first_word rest_of player_of is_letter is_numbered digit_of is_bad when◌then◌else◌
 starter-so zero rest least most = absurd (omega arith)
 starter-so (suc zero) rest least most = record { first = refl; behind = refl; no-player = refl; starter = refl; number = refl }
 starter-so (suc (suc zero)) rest least most = record { first = refl; behind = refl; no-player = refl; starter = refl; number = refl }

@@ -10,7 +10,7 @@ use lib.ListN.{length, get_or}
 use borrow.Author.Tests.{eqb-true, leb-true, le-leb}
 use Rattle.numbers.specs.BigEndian.{to_bytes, bytes_at, number_at, Bytes}
 use Rattle.numbers.proofs.Bytes.{big_endian-to_bytes, to_bytes-number_at, number_at-lt, written_out}
-use Rattle.basics.specs.Ladder.{if◌then◌else◌, need◌or◌then◌}
+use Rattle.basics.specs.Ladder.{when◌then◌else◌, need◌or◌then◌}
 use Rattle.basics.proofs.Ladder.{if-elim, need-elim, both_true}
 use Rattle.entries.specs.declared.Fields.{Fields}
 use Rattle.entries.specs.declared.Entry.{Entry}
@@ -27,8 +27,9 @@ fields_back kind rides pass day scan pass_fits day-fits scan-fits = λ i.
     entry_of (fields kind rides (big_endian-to_bytes 4 pass pass_fits i) (big_endian-to_bytes 2 day day-fits i) (big_endian-to_bytes 4 scan scan-fits i) 0)
 
 pub write-then-read : WriteThenRead
-unfolding entry_bytes entry_of is_null is_sale is_boarding if◌then◌else◌ WellFormed
+unfolding entry_bytes entry_of is_null is_sale is_boarding when◌then◌else◌ WellFormed
 write-then-read Null ok = fields_back 0 0 0 0 0 (omega arith) (omega arith) (omega arith)
+write-then-read Malformed ok = elim ok [ ]
 write-then-read (Sale pass rides last_day) ok =
     fields_back 1 rides pass last_day 0 ok.0 ok.1.1.1 (omega arith) ∙ rw (le-leb 1 rides ok.1.0, le-leb rides most_rides ok.1.1.0)
 write-then-read (Boarding pass day scan) ok = fields_back 2 0 pass day scan ok.0 ok.1.0 ok.1.1

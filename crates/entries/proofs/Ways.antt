@@ -6,7 +6,7 @@ use mathlib.Core.Bool.{Bool, true, false}
 use mathlib.Core.List.{List}
 use lib.ListN.{length}
 use borrow.Author.Tests.{ne_eqb, eq-eqb}
-use Rattle.basics.specs.Ladder.{if◌then◌else◌, need◌or◌then◌}
+use Rattle.basics.specs.Ladder.{when◌then◌else◌, need◌or◌then◌}
 use Rattle.entries.specs.declared.Fields.{Fields}
 use Rattle.entries.specs.declared.Entry.{Entry}
 use Rattle.entries.specs.declared.Entry.TheVariants.{Null, Malformed, Sale, Boarding}
@@ -14,21 +14,21 @@ use Rattle.entries.specs.Entry.{entry_length, fields_in, is_null, is_sale, is_bo
 
 module _ (f : Fields) (null : Bool) (null-so : null ≡ is_null f) where
   pub is-null : null ≡ true → Null ≡ entry_of f
-  unfolding entry_of if◌then◌else◌
+  unfolding entry_of when◌then◌else◌
   is-null zeros = rw (← null-so, zeros)
 
   module _ (not_null : null ≡ false) (sale : Bool) (sale-so : sale ≡ is_sale f) where
     pub is-sale : sale ≡ true → Sale f.pass f.rides f.day ≡ entry_of f
-    unfolding entry_of if◌then◌else◌
+    unfolding entry_of when◌then◌else◌
     is-sale so = rw (← null-so, not_null, ← sale-so, so)
 
     module _ (not-sale : sale ≡ false) (boarding : Bool) (boarding-so : boarding ≡ is_boarding f) where
       pub is-boarding : boarding ≡ true → Boarding f.pass f.day f.scan ≡ entry_of f
-      unfolding entry_of if◌then◌else◌
+      unfolding entry_of when◌then◌else◌
       is-boarding so = rw (← null-so, not_null, ← sale-so, not-sale, ← boarding-so, so)
 
       pub is-malformed : boarding ≡ false → Malformed ≡ entry_of f
-      unfolding entry_of if◌then◌else◌
+      unfolding entry_of when◌then◌else◌
       is-malformed so = rw (← null-so, not_null, ← sale-so, not-sale, ← boarding-so, so)
 
 module _ (value : List ℕ) where

@@ -1,16 +1,16 @@
 -- The ledger's theorems, over any list by induction on it. Of one entry, what the rule did to the passes in use; from a sound table the call does just that,
 -- and leaves a sound table.
 -- Assumes nothing.
-use Prim.Native.Nat.{ℕ, ◌+◌, ◌-◌}
+use Prim.Native.Nat.{ℕ, ◌+◌}
 use mathlib.Core.Path.{◌≡◌, refl, sym, ap, ◌∙◌, subst}
-use mathlib.Core.Bool.{Bool, true, false, not, ◌||◌, true≢false}
+use mathlib.Core.Bool.{Bool, true, false, ◌||◌, true≢false}
 use mathlib.Core.List.{List, [], ◌∷◌, ◌++◌}
 use mathlib.Core.Option.{Option, none, some}
 use native.Mathlib.Omega.{arith}
 use lib.Dec.{eqb, leb, ltb}
 use lib.ListN.{length, take}
 use borrow.Author.Tests.{eq-eqb, leb-true, le-leb}
-use Rattle.basics.specs.Ladder.{if◌then◌else◌, need◌or◌then◌}
+use Rattle.basics.specs.Ladder.{when◌then◌else◌, need◌or◌then◌}
 use Rattle.basics.specs.Outcome.{Outcome, outcome}
 use Rattle.basics.proofs.Ladder.{by-test, need-elim, need-passed, need-failed, or_right}
 use Rattle.columns.specs.Walks.{cells_from}
@@ -19,7 +19,7 @@ use Rattle.entries.specs.declared.Entry.TheVariants.{Null, Malformed, Sale, Boar
 use Rattle.entries.specs.Entry.{entry_in}
 use Rattle.entries.proofs.Laws.{few-rides}
 use Rattle.passes.specs.declared.Pass.{Pass}
-use Rattle.passes.specs.Passes.{Table, table, pass_at, in_use, holding, most_passes, numbers_of, among, place_of, is_full, sound, Fresh}
+use Rattle.passes.specs.Passes.{Table, pass_at, in_use, holding, most_passes, numbers_of, among, place_of, is_full, sound, Fresh}
 use Rattle.passes.proofs.Laws as laws
 use Rattle.passes.proofs.Laws.{sound-brings, sound-so, in-use-length, holding-in-use, in-use-holding, holding-sound}
 use Rattle.ledger_rule.specs.declared.Boarded.{Boarded}
@@ -27,8 +27,8 @@ use Rattle.ledger_rule.specs.Rule.{sold, opened, sell, board_pass, boarded_at, p
 use Rattle.ledger_rule.specs.Sums.{is_accepted, is_of, rides_sold, boardings, of_pass, all_left, left_on}
 use Rattle.ledger_rule.specs.Promises.{accepted_of}
 use Rattle.ledger.specs.Ledger.{carried_out, enter, replay, answers, accepted}
-use Rattle.ledger.specs.Promises.{ConservedForEach, ConservedForAll, Conservation, no_more, never_sold, SoldOnce, Spent, SpentStays, SoundStays}
-use Rattle.ledger.specs.Promises.{FreshSound, FrontThenRest, Alike, SamePassesAlike, numbers, SaleTooMany, EnterPromises}
+use Rattle.ledger.specs.Promises.{ConservedForEach, ConservedForAll, Conservation, no_more, never_sold, SoldOnce, SpentStays, SoundStays}
+use Rattle.ledger.specs.Promises.{FreshSound, FrontThenRest, SamePassesAlike, numbers, SaleTooMany, EnterPromises}
 use Rattle.ledger_rule.proofs.Steps.{Did, keeps, opens, takes, declined-brings, did, InOrder, stays-in-order}
 use Rattle.ledger_rule.proofs.OnePass.{pass_in, moved}
 use Rattle.ledger_rule.proofs.Promises.{of-pass-chosen, rule-conserves-each, rule-conserves-all}
@@ -59,12 +59,12 @@ module _ (value : List ℕ) (t : Table) (sound-now : sound t ≡ true) where
       }
 
   accepted-next : (later : List Entry)
-      → (if is_accepted (enter value t).answer then entry_in value ∷ later else later) ≡ accepted_of (in_use t) (entry_in value) ++ later
-  unfolding if◌then◌else◌
-  accepted-next later = ap (λ o. if is_accepted o.answer then entry_in value ∷ later else later) entered.as-ruled
+      → (when is_accepted (enter value t).answer then entry_in value ∷ later else later) ≡ accepted_of (in_use t) (entry_in value) ++ later
+  unfolding when◌then◌else◌
+  accepted-next later = ap (λ o. when is_accepted o.answer then entry_in value ∷ later else later) entered.as-ruled
       ∙ either (is_accepted (rule (in_use t) (entry_in value)).answer)
     where
-      either : (b : Bool) → (if b then entry_in value ∷ later else later) ≡ (if b then entry_in value ∷ [] else []) ++ later
+      either : (b : Bool) → (when b then entry_in value ∷ later else later) ≡ (when b then entry_in value ∷ [] else []) ++ later
       either true = refl
       either false = refl
 
@@ -79,13 +79,13 @@ boardings-append [] ys = omega arith
 boardings-append (x ∷ xs) ys = omega (arith, boardings-append xs ys)
 
 of-pass-append : (number : ℕ) (xs ys : List Entry) → of_pass number (xs ++ ys) ≡ of_pass number xs ++ of_pass number ys
-unfolding of_pass if◌then◌else◌
+unfolding of_pass when◌then◌else◌
 of-pass-append number [] ys = refl
 of-pass-append number (x ∷ xs) ys =
-    ap (λ later. if is_of number x then x ∷ later else later) (of-pass-append number xs ys) ∙ either (is_of number x) (of_pass number xs)
+    ap (λ later. when is_of number x then x ∷ later else later) (of-pass-append number xs ys) ∙ either (is_of number x) (of_pass number xs)
   where
     either : (b : Bool) (its : List Entry)
-        → (if b then x ∷ its ++ of_pass number ys else its ++ of_pass number ys) ≡ (if b then x ∷ its else its) ++ of_pass number ys
+        → (when b then x ∷ its ++ of_pass number ys else its ++ of_pass number ys) ≡ (when b then x ∷ its else its) ++ of_pass number ys
     either true its = refl
     either false its = refl
 
@@ -201,7 +201,7 @@ sound-stays t (v ∷ vs) sound-now =
     record { still = rest.still; never_30 = ap (λ b. b || among 30 (answers (enter v t).left vs)) not-now ∙ rest.never_30 }
 
 pub front-then-rest : FrontThenRest
-unfolding replay answers accepted if◌then◌else◌
+unfolding replay answers accepted when◌then◌else◌
 front-then-rest t [] rest = record { same_table = refl; same_answers = refl; same_accepted = refl }
 front-then-rest t (v ∷ vs) rest =
     let t' = (enter v t).left in
@@ -209,11 +209,11 @@ front-then-rest t (v ∷ vs) rest =
     record {
       same_table = so.same_table;
       same_answers = ap (λ later. (enter v t).answer ∷ later) so.same_answers;
-      same_accepted = ap (λ later. if is_accepted (enter v t).answer then entry_in v ∷ later else later) so.same_accepted
+      same_accepted = ap (λ later. when is_accepted (enter v t).answer then entry_in v ∷ later else later) so.same_accepted
           ∙ either (is_accepted (enter v t).answer) (accepted t' vs) (accepted (replay t' vs) rest);
     }
   where
-    either : (b : Bool) (xs ys : List Entry) → (if b then entry_in v ∷ xs ++ ys else xs ++ ys) ≡ (if b then entry_in v ∷ xs else xs) ++ ys
+    either : (b : Bool) (xs ys : List Entry) → (when b then entry_in v ∷ xs ++ ys else xs ++ ys) ≡ (when b then entry_in v ∷ xs else xs) ++ ys
     either true xs ys = refl
     either false xs ys = refl
 

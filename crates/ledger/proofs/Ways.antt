@@ -3,11 +3,11 @@
 -- Assumes nothing.
 use Prim.Native.Nat.{ℕ, ◌+◌, ◌-◌, ◌≤◌, ◌<◌}
 use mathlib.Core.Path.{◌≡◌, sym, ap, ◌∙◌}
-use mathlib.Core.Bool.{Bool, true, false, not}
+use mathlib.Core.Bool.{Bool, true, false}
 use mathlib.Core.List.{List, [], ◌∷◌, ◌++◌}
 use native.Mathlib.Omega.{arith}
 use lib.ListN.{length}
-use borrow.Author.Tests.{not-true, not-false, leb-false}
+use borrow.Author.Tests.{leb-false}
 use Rattle.basics.specs.Ladder.{need◌or◌then◌}
 use Rattle.basics.specs.Outcome.{Outcome, outcome}
 use Rattle.basics.proofs.Ladder.{need-passed}
@@ -102,15 +102,15 @@ module _ (c : Columns) (count : ℕ) (sound-so : sound (table c count) ≡ true)
 
 -- ---- the call
 
-pub table-sound : (t : Table) (fine : Bool) → fine ≡ sound t → not fine ≡ false → sound t ≡ true
-table-sound t fine fine-so passed = sym fine-so ∙ not-false fine passed
+pub table-sound : (t : Table) (fine : Bool) → fine ≡ sound t → fine ≡ true → sound t ≡ true
+table-sound t fine fine-so passed = sym fine-so ∙ passed
 
 module _ (value : List ℕ) (t : Table) (fine : Bool) (fine-so : fine ≡ sound t) where
-  pub table-unsound : not fine ≡ true → outcome 30 t ≡ enter value t
+  pub table-unsound : fine ≡ false → outcome 30 t ≡ enter value t
   unfolding enter need◌or◌then◌
-  table-unsound other = rw (← fine-so, not-true fine other)
+  table-unsound other = rw (← fine-so, other)
 
-  module _ (passed : not fine ≡ false) (e : Entry) (e-so : e ≡ entry_in value) where
+  module _ (passed : fine ≡ true) (e : Entry) (e-so : e ≡ entry_in value) where
     in_order : sound t ≡ true
     in_order = table-sound t fine fine-so passed
 

@@ -9,7 +9,7 @@ use mathlib.Core.Option.{Option, none, some}
 use native.Mathlib.Omega.{arith}
 use lib.Dec.{eqb}
 use borrow.Author.Tests.{eqb-true, eq-eqb}
-use Rattle.basics.specs.Ladder.{if◌then◌else◌}
+use Rattle.basics.specs.Ladder.{when◌then◌else◌}
 use Rattle.basics.specs.Outcome.{Outcome}
 use Rattle.basics.proofs.Ladder.{by-test, if-true, if-false}
 use Rattle.entries.specs.declared.Entry.{Entry}
@@ -25,7 +25,7 @@ use Rattle.ledger_rule.proofs.Steps.{Found, Did, keeps, opens, takes, declined-b
 
 unfoldable pub pass_in : (number : ℕ) → List Pass → Option Pass
 pass_in number [] = none
-pass_in number (p ∷ ps) = if eqb p.number number then some p else pass_in number ps
+pass_in number (p ∷ ps) = when eqb p.number number then some p else pass_in number ps
 
 module _ (number : ℕ) where
   pass-first : (p : Pass) (ps : List Pass) → p.number ≡ number → pass_in number (p ∷ ps) ≡ some p
@@ -50,12 +50,12 @@ module _ (number : ℕ) where
   unfolding pass_in
   pass-apart [] p q back p-differs q-differs = if-false (some p) (pass_in number back) p-differs ∙ sym (if-false (some q) (pass_in number back) q-differs)
   pass-apart (r ∷ front) p q back p-differs q-differs =
-      ap (λ it. if eqb r.number number then some r else it) (pass-apart front p q back p-differs q-differs)
+      ap (λ it. when eqb r.number number then some r else it) (pass-apart front p q back p-differs q-differs)
 
   pass-not-last : (ps : List Pass) (p : Pass) → eqb p.number number ≡ false → pass_in number (ps ++ p ∷ []) ≡ pass_in number ps
   unfolding pass_in
   pass-not-last [] p differs = if-false (some p) none differs
-  pass-not-last (q ∷ ps) p differs = ap (λ it. if eqb q.number number then some q else it) (pass-not-last ps p differs)
+  pass-not-last (q ∷ ps) p differs = ap (λ it. when eqb q.number number then some q else it) (pass-not-last ps p differs)
 
 -- ---- what happens to it
 
@@ -67,7 +67,7 @@ pub data Moved (number : ℕ) : (before after : Option Pass) → (its : List Ent
 
 -- the accepted entries of a pass, of one entry that was answered
 abbrev pub its_of : (number : ℕ) → Entry → Outcome (List Pass) → List Entry
-its_of number e o = if is_accepted o.answer then of_pass number (e ∷ []) else []
+its_of number e o = when is_accepted o.answer then of_pass number (e ∷ []) else []
 
 -- where the pass is another one, nothing happens to this
 apart : (number : ℕ) (e : Entry) {before after : Option Pass} → is_of number e ≡ false → after ≡ before → Moved number before after (of_pass number (e ∷ []))
@@ -118,10 +118,10 @@ moved-ridden number other day scan ps at in-time newer left =
 
 pub moved : (number : ℕ) {ps : List Pass} {e : Entry} {o : Outcome (List Pass)} → Did ps e o
     → Moved number (pass_in number ps) (pass_in number o.left) (its_of number e o)
-unfolding if◌then◌else◌
+unfolding when◌then◌else◌
 moved number {ps} (keeps {e} {answer} so) =
     let it = pass_in number ps in
-    subst (λ b. Moved number it it (if b then of_pass number (e ∷ []) else [])) (sym (declined-brings answer so).not-accepted) stays
+    subst (λ b. Moved number it it (when b then of_pass number (e ∷ []) else [])) (sym (declined-brings answer so).not-accepted) stays
 moved number {ps} (opens {number = other} {rides} {last_day} unknown room) = moved-opened number other rides last_day ps unknown
 moved number {ps} (takes {number = other} {day} {scan} at in-time newer left) = moved-ridden number other day scan ps at in-time newer left
 

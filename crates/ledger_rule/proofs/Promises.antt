@@ -5,7 +5,7 @@ use mathlib.Core.Path.{◌≡◌, refl, sym, ap, subst}
 use mathlib.Core.Bool.{Bool, true, false}
 use mathlib.Core.List.{List, [], ◌∷◌, ◌++◌}
 use native.Mathlib.Omega.{arith}
-use Rattle.basics.specs.Ladder.{if◌then◌else◌}
+use Rattle.basics.specs.Ladder.{when◌then◌else◌}
 use Rattle.basics.specs.Outcome.{Outcome}
 use Rattle.entries.specs.declared.Entry.{Entry}
 use Rattle.passes.specs.declared.Pass.{Pass}
@@ -15,8 +15,8 @@ use Rattle.ledger_rule.specs.Promises.{RuleConservesEach, RuleConservesAll}
 use Rattle.ledger_rule.proofs.Steps.{Did, keeps, opens, takes, declined-brings, did}
 use Rattle.ledger_rule.proofs.OnePass.{moved, left-on, moved-conserves}
 
-pub of-pass-chosen : (number : ℕ) (b : Bool) (e : Entry) → of_pass number (if b then e ∷ [] else []) ≡ (if b then of_pass number (e ∷ []) else [])
-unfolding of_pass if◌then◌else◌
+pub of-pass-chosen : (number : ℕ) (b : Bool) (e : Entry) → of_pass number (when b then e ∷ [] else []) ≡ (when b then of_pass number (e ∷ []) else [])
+unfolding of_pass when◌then◌else◌
 of-pass-chosen number true e = refl
 of-pass-chosen number false e = refl
 
@@ -31,11 +31,11 @@ left-append [] qs = omega arith
 left-append (p ∷ ps) qs = omega (arith, left-append ps qs)
 
 did-conserves : {ps : List Pass} {e : Entry} {o : Outcome (List Pass)} → Did ps e o
-    → let its = if is_accepted o.answer then e ∷ [] else [] in
+    → let its = when is_accepted o.answer then e ∷ [] else [] in
     all_left ps + rides_sold its ≡ boardings its + all_left o.left
-unfolding if◌then◌else◌ rides_of boardings_of
+unfolding when◌then◌else◌ rides_of boardings_of
 did-conserves {ps} (keeps {e} {answer} so) =
-    subst (λ b. all_left ps + rides_sold (if b then e ∷ [] else []) ≡ boardings (if b then e ∷ [] else []) + all_left ps)
+    subst (λ b. all_left ps + rides_sold (when b then e ∷ [] else []) ≡ boardings (when b then e ∷ [] else []) + all_left ps)
     (sym (declined-brings answer so).not-accepted) (omega arith)
 did-conserves {ps} (opens {number} {rides} {last_day} unknown room) = omega (arith, left-append ps (opened number rides last_day ∷ []))
 did-conserves {ps} (takes {number} {day} {scan} at in-time newer ride) =

@@ -1,7 +1,7 @@
 -- What the rule does, of any passes and any entry: it keeps the passes, opens one behind them, or takes a ride from the first one with the number. The
 -- theorems go by these three and not by the rule's text. With it, that lawful passes stay lawful.
 -- Assumes nothing.
-use Prim.Native.Nat.{ℕ, ◌+◌, ◌-◌, ◌≤◌, ◌<◌}
+use Prim.Native.Nat.{ℕ, ◌≤◌, ◌<◌}
 use mathlib.Core.Path.{◌≡◌, refl, sym, ap, ◌∙◌, subst}
 use mathlib.Core.Bool.{Bool, true, false, not, ◌&&◌, ◌||◌, false≢true}
 use mathlib.Core.List.{List, [], ◌∷◌, ◌++◌, map, map-append}
@@ -18,10 +18,9 @@ use Rattle.entries.specs.declared.Entry.TheVariants.{Null, Malformed, Sale, Boar
 use Rattle.entries.specs.Entry.{most_rides}
 use Rattle.entries.proofs.Laws.{FewRides}
 use Rattle.passes.specs.declared.Pass.{Pass}
-use Rattle.passes.specs.Passes.{pass, most_passes, numbers_of, among, place_of, twice, rides_fit, lawful, is_full}
+use Rattle.passes.specs.Passes.{most_passes, numbers_of, among, place_of, twice, rides_fit, lawful, is_full}
 use Rattle.passes.proofs.Laws.{or-false, not_so, place_here, place-later}
 use Rattle.ledger_rule.specs.declared.Boarded.{Boarded}
-use Rattle.ledger_rule.specs.declared.Boarded.TheVariants.{Taken}
 use Rattle.ledger_rule.specs.Rule.{sold, boarded, opened, sell, ride_taken, board_pass, boarded_at, pass_of, board, rule, rule_numbers}
 use Rattle.ledger_rule.specs.Sums.{is_accepted}
 

@@ -9,9 +9,9 @@ use borrow.Author.Tests.{eqb-false, ne_eqb, leb-true, le-leb}
 use Rattle.basics.proofs.Ladder.{both_true, and-true}
 use Rattle.columns.specs.Walks.{cells_from, every}
 use Rattle.columns.proofs.Walks.{here-or-elsewhere, every-passes, every-brings}
-use Rattle.passes.specs.Passes.{Table, number_in, among, twice, rides_fit, lawful, sound}
+use Rattle.passes.specs.Passes.{Table, number_in, among, twice, rides_fit, sound}
 use Rattle.passes.specs.Promises.{SoundTable, SoundExactly}
-use Rattle.passes.proofs.Laws.{or-false, not_so, Sound, sound-brings, sound-so, lawful-columns}
+use Rattle.passes.proofs.Laws.{or-false, not_so, sound-brings, sound-so, lawful-columns}
 
 module _ (at : (place : ℕ) → ℕ) where
   -- a number that is not among those from a place on stands at none of these places

@@ -1,0 +1,9 @@
+-- `entries::fields_in` meets its contract: each field is read at its place.
+-- Assumes nothing.
+use Rattle.entries.specs.Entry.{fields_in}
+use Rattle.entries.proofs.fields_in.Goals as goal
+
+pub returns : goal.returns
+unfolding fields_in
+returns c =
+    rw (c.read_u32.ensures, c.read_u16.ensures, c.read_u32-2.ensures, c.read_u32-3.ensures)
