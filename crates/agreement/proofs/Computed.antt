@@ -11,7 +11,7 @@ use borrow.Author.Tests.{eqb-false}
 use Rattle.numbers.specs.BigEndian.{number_at}
 use Rattle.basics.specs.declared.Round.{Round}
 use Rattle.basics.specs.declared.Value.{Value}
-use Rattle.basics.specs.Ladder.{if◌then◌else◌, need◌or◌then◌}
+use Rattle.basics.specs.Ladder.{when◌then◌else◌, need◌or◌then◌}
 use Rattle.basics.specs.Rounds.{the_round, owner_of, owned_or_0, owned_not_0, rank, at_most}
 use Rattle.basics.specs.Votes.{is_vote_up_to}
 use Rattle.basics.specs.Places.{placed}
@@ -46,7 +46,7 @@ use Rattle.learner_holes.specs.Holes as holes
 use Rattle.agreement.specs.Run.{by_start, Boxes, put, Decided, WantedFor, requested, started}
 use Rattle.agreement.specs.Run as run
 use Rattle.agreement.specs.Examples.{equal_bytes, was_sent, played, plays, three, first, v, u, early, split, Computed}
-use Rattle.agreement.specs.Slips.{set_fresh, slipped, voting_then_promising, discarding, promising, voting_for_both, hearing_one, promised_by_one, voting_for_own}
+use Rattle.agreement.specs.Slips.{set_fresh as fresh_slip, slipped, voting_then_promising, discarding, promising, voting_for_both, hearing_one, promised_by_one, voting_for_own}
 use Rattle.agreement.specs.Slips.{starting_twice, voting_in_round_5, starting_with_u, voting_for_v, voting_for_old, taking_one, voting_twice, proposing_u, proposing_v}
 use Rattle.agreement.specs.Slips.{vote_round_0, stale_vote, doubled_vote, doubled_promise, earlier_promise, made_up_value, Slips}
 use Rattle.agreement.proofs.Families.{nowhere}
@@ -70,7 +70,7 @@ only-u (started own (newest e)) = let same : v ≡ u = cc in apart v u refl same
 only-u (started own (older m)) = nowhere m
 
 both : Computed × Slips
-unfolding ones number_at if◌then◌else◌ need◌or◌then◌ owner_of owned_or_0 owned_not_0 rank at_most request_row prepare_row promise_row propose_row vote_row table_row keeps_table is_vote_up_to
+unfolding ones number_at when◌then◌else◌ need◌or◌then◌ owner_of owned_or_0 owned_not_0 rank at_most request_row prepare_row promise_row propose_row vote_row table_row keeps_table is_vote_up_to
     message_of fields_of when_request when_prepare when_promise when_propose when_vote fields_in read_packet packet_with packet_of placed after_reading after_placing ruled rule_at act step says_send
     acceptors_allowed instances_allowed allowed majority bit has_member with_member within reaches put equal_bytes was_sent is_acceptor sent_by plays played
     set_fresh primary.primary_fresh acceptor_tables.acceptor_fresh backup_tables.backup_fresh learner_tables.learner_fresh
@@ -145,18 +145,18 @@ both = (
     };
     acceptor_set_fresh = record {
       are_played = record { before_plays = refl; slip_plays = refl; after_plays = refl };
-      one_decided = by_two (slipped (set_fresh (run.Caller.acceptor 0)) promising voting_for_old) 0 2 (the_round 0) v refl refl refl refl refl;
-      other_decided = by_two (slipped (set_fresh (run.Caller.acceptor 0)) promising voting_for_old) 0 1 (the_round 1) u refl refl refl refl refl;
+      one_decided = by_two (slipped (fresh_slip (run.Caller.acceptor 0)) promising voting_for_old) 0 2 (the_round 0) v refl refl refl refl refl;
+      other_decided = by_two (slipped (fresh_slip (run.Caller.acceptor 0)) promising voting_for_old) 0 1 (the_round 1) u refl refl refl refl refl;
     };
     primary_set_fresh = record {
       are_played = record { before_plays = refl; slip_plays = refl; after_plays = refl };
-      one_decided = by_two (slipped (set_fresh run.Caller.the_primary) taking_one voting_twice) 0 1 (the_round 0) v refl refl refl refl refl;
-      other_decided = by_two (slipped (set_fresh run.Caller.the_primary) taking_one voting_twice) 1 2 (the_round 0) u refl refl refl refl refl;
+      one_decided = by_two (slipped (fresh_slip run.Caller.the_primary) taking_one voting_twice) 0 1 (the_round 0) v refl refl refl refl refl;
+      other_decided = by_two (slipped (fresh_slip run.Caller.the_primary) taking_one voting_twice) 1 2 (the_round 0) u refl refl refl refl refl;
     };
     backup_set_fresh = record {
       are_played = record { before_plays = refl; slip_plays = refl; after_plays = refl };
-      one_decided = by_two (slipped (set_fresh (run.Caller.backup 1)) proposing_u proposing_v) 0 1 (the_round 1) u refl refl refl refl refl;
-      other_decided = by_two (slipped (set_fresh (run.Caller.backup 1)) proposing_u proposing_v) 1 2 (the_round 1) v refl refl refl refl refl;
+      one_decided = by_two (slipped (fresh_slip (run.Caller.backup 1)) proposing_u proposing_v) 0 1 (the_round 1) u refl refl refl refl refl;
+      other_decided = by_two (slipped (fresh_slip (run.Caller.backup 1)) proposing_u proposing_v) 1 2 (the_round 1) v refl refl refl refl refl;
     };
     learner_set_fresh = record {
       are_played = record { before_plays = refl; slip_plays = refl; after_plays = refl };

@@ -25,10 +25,10 @@ use Rattle.agreement.specs.Run.{by_start, Boxes, fresh_boxes, Handed, Call, Late
 use Rattle.agreement.specs.Run as run
 use Rattle.agreement.specs.Agreement.{Agreed}
 use Rattle.agreement.specs.Examples.{Row, primary_gets, primary_gets_by_reference, acceptor_gets, backup_starts, backup_gets, learner_gets, zeros, after, answers, was_sent}
-use Rattle.agreement.specs.Examples.{reads_request, may_hand, is_handed, played, plays, three, first, v, u, deciding, taking_over, early, taken, leaving_ahole}
+use Rattle.agreement.specs.Examples.{reads_request, may_hand, is_handed, played, plays, three, first, v, u, deciding, taking_over, early, taken, leaving_a_hole}
 use Rattle.agreement.specs.Examples.{repairing, holed, repaired, splitting, split, five, seven, three_of_five, four_of_seven, of_five, of_seven}
 use Rattle.agreement.specs.Examples.{evening, scanning, keeping_the_scan, giving_up_the_scan, scanned, scan_kept, scan_given_up}
-use Rattle.agreement.proofs.Finding.{was_sent, two-votes}
+use Rattle.agreement.proofs.Finding.{by-was_sent, two-votes}
 use Rattle.agreement.proofs.Computed.{computed}
 use Rattle.agreement.proofs.Agreement.{agreement}
 
@@ -37,7 +37,7 @@ use Rattle.agreement.proofs.Agreement.{agreement}
 may-hand : (w : Boxes) (m : Message) → may_hand w (packet_of m) ≡ true → Handed w (packet_of m)
 may-hand w m e =
     ⊎_elim (asks (read_packet (packet_of m)) refl)
-    (λ copied. let found = was_sent (packet_of m) w.packets copied in run.Handed.copy found.by found.there)
+    (λ copied. let found = by-was_sent (packet_of m) w.packets copied in run.Handed.copy found.by found.there)
     (or_cases (reads_request (read_packet (packet_of m))) (was_sent (packet_of m) w.packets) e)
   where
     asks : (r : Reading) → read_packet (packet_of m) ≡ r → reads_request r ≡ true → Handed w (packet_of m)
@@ -84,7 +84,7 @@ pub taken-run : Run (Call three) three taken
 taken-run = rows_run early taking_over early-run computed.taking_over_plays
 
 pub repaired-run : Run (Call three) three repaired
-repaired-run = rows_run holed repairing (rows_run (fresh_boxes 2) leaving_ahole now computed.leaving_a_hole_plays) computed.repairing_plays
+repaired-run = rows_run holed repairing (rows_run (fresh_boxes 2) leaving_a_hole now computed.leaving_a_hole_plays) computed.repairing_plays
 
 -- Decided before the takeover, and so afterwards, whatever the backup had in mind.
 pub v-decided-early : Decided three early first v

@@ -35,13 +35,13 @@ pub record By (p : List ℕ) (packets : List Sent) : Type 0 where
   pub by : Caller
   pub there : Mem (sent by p) packets
 
-pub was_sent : (p : List ℕ) (packets : List Sent) → was_sent p packets ≡ true → By p packets
+pub by-was_sent : (p : List ℕ) (packets : List Sent) → was_sent p packets ≡ true → By p packets
 unfolding was_sent
-was_sent p [] e = absurd (false≢true e)
-was_sent p (x ∷ xs) e =
+by-was_sent p [] e = absurd (false≢true e)
+by-was_sent p (x ∷ xs) e =
     ⊎_elim
     (λ same. record { by = x.by; there = newest (ap (sent x.by) (same_bytes p x.packet same)) })
-    (λ rest. let found = was_sent p xs rest in record { by = found.by; there = older found.there })
+    (λ rest. let found = by-was_sent p xs rest in record { by = found.by; there = older found.there })
     (or_cases (equal_bytes p x.packet) (was_sent p xs) e)
 
 -- ---- votes

@@ -6,7 +6,7 @@ use mathlib.Core.Bool.{true, false}
 use mathlib.Core.List.{List, []}
 use Rattle.basics.specs.declared.Instance.{Instance}
 use Rattle.basics.specs.declared.Value.{Value}
-use Rattle.basics.specs.Ladder.{if◌then◌else◌}
+use Rattle.basics.specs.Ladder.{when◌then◌else◌}
 use Rattle.basics.specs.Outcome.{Outcome, Lent}
 use Rattle.basics.specs.Verdict.{says_send}
 use Rattle.basics.proofs.Ladder.{by-test, need-failed}
@@ -91,7 +91,7 @@ module _ (s : Settings) (never : allowed s ≡ false) where
   -- ---- nothing is sent
 
   no_more : {A : Type 0} {answer : ℕ} (new : A) (before : List A) → answer ≡ 7 → more_when_sent answer new before ≡ before
-  unfolding says_send if◌then◌else◌
+  unfolding says_send when◌then◌else◌
   no_more new before e = rw e
 
   call-quiet : {w u : Boxes} → Call s w u → u.packets ≡ w.packets

@@ -8,7 +8,7 @@ use Rattle.basics.specs.declared.Instance.{Instance}
 use Rattle.basics.specs.declared.Place.{Place}
 use Rattle.basics.specs.declared.Place.TheVariants.{At, Nowhere}
 use Rattle.basics.specs.declared.Value.{Value}
-use Rattle.basics.specs.Ladder.{if◌then◌else◌, need◌or◌then◌}
+use Rattle.basics.specs.Ladder.{when◌then◌else◌, need◌or◌then◌}
 use Rattle.basics.specs.Places.{placed}
 use Rattle.basics.proofs.Ladder.{need-elim, if-elim}
 use Rattle.basics.proofs.Places.{placed-index}
@@ -53,10 +53,10 @@ module _ (s : Settings) (t : Tables) (i : Instance) where
           (λ _ e. let z : ◌≡◌ {A = ℕ} 0 1 = cc in absurd (omega arith))
 
   pub speaks : (v : Value) → Spoken s t i v → said_by (answer_for s i t) ≡ says v
-  unfolding answer_of_cell need◌or◌then◌ if◌then◌else◌
+  unfolding answer_of_cell need◌or◌then◌ when◌then◌else◌
   speaks v h = ap said_by (answers-cell s t i h.set-up h.below) ∙ rw (h.fine, h.decided) (ap says h.value)
 
   pub waits : learner_allowed s t ≡ true → i.0 < s.instances → possible s.acceptors (cell_at t i.0) ≡ true → is_decided s.acceptors (cell_at t i.0) ≡ false
       → said_by (answer_for s i t) ≡ not_yet
-  unfolding answer_of_cell need◌or◌then◌ if◌then◌else◌
+  unfolding answer_of_cell need◌or◌then◌ when◌then◌else◌
   waits ok below fine open-still = ap said_by (answers-cell s t i ok below) ∙ rw (fine, open-still)

@@ -13,7 +13,7 @@ use mathlib.Core.List.{List, []}
 use lib.Dec.{eqb}
 use Rattle.basics.specs.declared.Round.{Round}
 use Rattle.basics.specs.declared.Value.{Value}
-use Rattle.basics.specs.Ladder.{if◌then◌else◌}
+use Rattle.basics.specs.Ladder.{when◌then◌else◌}
 use Rattle.basics.specs.Rounds.{is_none, owner_of, rank}
 use Rattle.quorum.specs.Quorum.{Member, Quorum}
 use Rattle.quorum.specs.Voters.{Mem}
@@ -62,7 +62,7 @@ fresh_slot = record { acceptor = λ _. acceptor_rule.fresh_cell; backup = λ _. 
 
 -- In rounds below this one the backup proposes nothing any more.
 abbrev pub spent : backups.Cell → ℕ
-spent c = c.round.0 + (if eqb c.phase backup_cell.proposed then 1 else 0)
+spent c = c.round.0 + (when eqb c.phase backup_cell.proposed then 1 else 0)
 
 -- A whole majority is past round r, and whoever of it voted in round r voted for v: nothing else was or will be decided there.
 pub record Barred (M : ℕ) (acceptor : ℕ → acceptors.Cell) (votes : List Vote) (r : ℕ) (v : Value) : Type 0 where

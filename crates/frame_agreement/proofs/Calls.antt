@@ -9,7 +9,7 @@ use lib.Dec.{eqb}
 use borrow.Author.Tests.{eqb-true, eqb-false}
 use native.Mathlib.Omega.{arith}
 use Rattle.basics.specs.declared.Verdict.TheVariants.{Done}
-use Rattle.basics.specs.Ladder.{if◌then◌else◌, need◌or◌then◌}
+use Rattle.basics.specs.Ladder.{when◌then◌else◌, need◌or◌then◌}
 use Rattle.basics.specs.Outcome.{Outcome, Lent}
 use Rattle.basics.specs.Verdict.{verdict_number, says_send}
 use Rattle.basics.proofs.Ladder.{by-test}
@@ -77,21 +77,21 @@ module _ {s : Settings} {w : Boxes} {Tables Cell : Type 0} (player : Player Tabl
 
 module _ {s : Settings} {w : Boxes} where
   primary-call : (port : ℕ) (f : List ℕ) → HandedFrame w port f → Call s w (after_primary w (packet_in f) (out_of_frame (primary_frame s port f w.primary)))
-  unfolding primary_frame primary_step says_send if◌then◌else◌
+  unfolding primary_frame primary_step says_send when◌then◌else◌
   primary-call = frame-call (primary s) w.primary (after_primary w) run.Call.primary_steps (λ p left number quiet. rw quiet)
 
   acceptor-call : (own port : ℕ) (f : List ℕ) → HandedFrame w port f
       → Call s w (after_acceptor w own (out_of_frame (acceptor_frame s own port f (w.acceptor own))))
-  unfolding acceptor_frame acceptor_step says_send if◌then◌else◌
+  unfolding acceptor_frame acceptor_step says_send when◌then◌else◌
   acceptor-call own =
       frame-call (acceptor s own) (w.acceptor own) (λ _. after_acceptor w own) (run.Call.acceptor_steps own) (λ p left number quiet. rw quiet)
 
   backup-call : (own port : ℕ) (f : List ℕ) → HandedFrame w port f → Call s w (after_backup w own (out_of_frame (backup_frame s own port f (w.backup own))))
-  unfolding backup_frame backup_step says_send if◌then◌else◌
+  unfolding backup_frame backup_step says_send when◌then◌else◌
   backup-call own = frame-call (backup s own) (w.backup own) (λ _. after_backup w own) (run.Call.backup_steps own) (λ p left number quiet. rw quiet)
 
   learner-call : (which port : ℕ) (f : List ℕ) → HandedFrame w port f → Call s w (after_learner w which (out_of_frame (learner_frame s port f (w.learner which))))
-  unfolding learner_frame learner_step says_send if◌then◌else◌
+  unfolding learner_frame learner_step says_send when◌then◌else◌
   learner-call which = frame-call (learner s) (w.learner which) (λ _. after_learner w which) (run.Call.learner_steps which) (λ p left number quiet. rw quiet)
 
 packet-calls : {s : Settings} {w u : Boxes} → FrameCall s w u → Call s w u

@@ -4,7 +4,7 @@
 use mathlib.Core.Path.{refl}
 use lib.Count.{ones}
 use Rattle.numbers.specs.BigEndian.{number_at, with_number_at}
-use Rattle.basics.specs.Ladder.{if◌then◌else◌, need◌or◌then◌}
+use Rattle.basics.specs.Ladder.{when◌then◌else◌, need◌or◌then◌}
 use Rattle.basics.specs.Rounds.{owner_of, owned_or_0, owned_not_0, rank, at_most}
 use Rattle.basics.specs.Votes.{is_vote_up_to}
 use Rattle.basics.specs.Places.{placed}
@@ -55,7 +55,7 @@ use Rattle.proved_cases.specs.Rounds.{RoundCases}
 use Rattle.proved_cases.specs.WrittenOut.{WrittenOut}
 
 computed : WrittenOut × FrameCases × HoleCases × RoundCases × Orders × All cases
-unfolding ones number_at with_number_at if◌then◌else◌ need◌or◌then◌ owner_of owned_or_0 owned_not_0 rank at_most is_vote_up_to placed request_row prepare_row promise_row propose_row vote_row table_row
+unfolding ones number_at with_number_at when◌then◌else◌ need◌or◌then◌ owner_of owned_or_0 owned_not_0 rank at_most is_vote_up_to placed request_row prepare_row promise_row propose_row vote_row table_row
     keeps_table message_of fields_of when_request when_prepare when_promise when_propose when_vote fields_in read_packet packet_with packet_of packet_write fields_read packet_read
     after_reading after_placing ruled rule_at act step acceptors_allowed instances_allowed allowed majority bit has_member with_member within reaches cells_from every
     set_fresh primary.primary_fresh acceptor_tables.acceptor_fresh backup_tables.backup_fresh learner_tables.learner_fresh
@@ -74,10 +74,10 @@ unfolding ones number_at with_number_at if◌then◌else◌ need◌or◌then◌ 
     ledger_rule.sell ledger_rule.board_pass ledger_rule.boarded_at ledger_rule.board ledger_rule.rule enter
 computed = (
   record {
-    primary_fresh = refl;
-    acceptor_fresh = refl;
-    backup_fresh = refl;
-    learner_fresh = refl;
+    primary_made_fresh = refl;
+    acceptor_made_fresh = refl;
+    backup_made_fresh = refl;
+    learner_made_fresh = refl;
     primary_not_fresh = refl;
     acceptor_not_fresh = refl;
     backup_not_fresh = refl;
@@ -99,7 +99,7 @@ computed = (
     table_saved = refl;
     table_read = refl;
     fields_written = refl;
-    fields_read = refl;
+    fields_as_read = refl;
     null_not_written = refl;
     null_not_read = refl;
     null_refused = refl;

@@ -2,7 +2,7 @@
 -- Assumes nothing.
 use mathlib.Core.Path.{refl}
 use Rattle.numbers.specs.BigEndian.{number_at}
-use Rattle.basics.specs.Ladder.{if◌then◌else◌, need◌or◌then◌}
+use Rattle.basics.specs.Ladder.{when◌then◌else◌, need◌or◌then◌}
 use Rattle.columns.specs.Walks.{cells_from, every}
 use Rattle.entries.specs.Entry.{fields_in, is_null, is_sale, is_boarding, entry_of, entry_in, field_bytes}
 use Rattle.passes.specs.Passes.{holding, among, place_of, twice, is_full, is_sized, lawful, sound}
@@ -12,7 +12,7 @@ use Rattle.ledger.specs.Ledger.{enter, replay, answers, accepted}
 use Rattle.proved_cases.specs.Ledger.{FullLedger, LedgerCases}
 
 full-ledger : FullLedger
-unfolding number_at if◌then◌else◌ need◌or◌then◌ cells_from every fields_in is_null is_sale entry_of entry_in field_bytes holding among twice is_full is_sized lawful sound
+unfolding number_at when◌then◌else◌ need◌or◌then◌ cells_from every fields_in is_null is_sale entry_of entry_in field_bytes holding among twice is_full is_sized lawful sound
     sell rule enter
 full-ledger = record {
   sales_answered = refl;
@@ -24,7 +24,7 @@ full-ledger = record {
 }
 
 pub ledger-cases : LedgerCases
-unfolding number_at if◌then◌else◌ need◌or◌then◌ cells_from every fields_in is_null is_sale is_boarding entry_of entry_in holding among place_of twice is_full is_sized
+unfolding number_at when◌then◌else◌ need◌or◌then◌ cells_from every fields_in is_null is_sale is_boarding entry_of entry_in holding among place_of twice is_full is_sized
     lawful sound sell board_pass boarded_at board rule enter replay answers accepted rides_of boardings_of
 ledger-cases = record {
   digits_are_bytes = refl;

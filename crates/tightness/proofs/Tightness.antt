@@ -5,7 +5,7 @@ use mathlib.Core.Path.{◌≡◌, refl, sym, ap, ◌∙◌}
 use Prim.Native.Nat.{ℕ}
 use mathlib.Core.List.{List}
 use lib.Dec.{eqb}
-use Rattle.basics.specs.Ladder.{if◌then◌else◌}
+use Rattle.basics.specs.Ladder.{when◌then◌else◌}
 use Rattle.basics.specs.Verdict.{verdict_number}
 use Rattle.messages.specs.declared.Fields.{Fields}
 use Rattle.player.specs.Step.{Ruling, refused, sends, counts}
@@ -54,11 +54,11 @@ request-ruled (primaries.Refused number) = refl
 
 order_ruled : Ruling acceptor_cells.Cell → acceptor_answers.Ruled
 order_ruled (refused number) = acceptors.Refused number
-order_ruled (sends verdict message cell) = if eqb (verdict_number verdict) 102 then acceptors.Promised cell message else acceptors.Voted cell message
+order_ruled (sends verdict message cell) = when eqb (verdict_number verdict) 102 then acceptors.Promised cell message else acceptors.Voted cell message
 order_ruled (counts verdict cell) = acceptors.Refused 0
 
 order-ruled : (answer : acceptor_answers.Ruled) → order_ruled (acceptor_rule.ruling_of answer) ≡ answer
-unfolding order_ruled if◌then◌else◌
+unfolding order_ruled when◌then◌else◌
 order-ruled (acceptors.Promised cell message) = refl
 order-ruled (acceptors.Voted cell message) = refl
 order-ruled (acceptors.Refused number) = refl
@@ -77,10 +77,10 @@ promise-ruled (backups.Refused number) = refl
 vote_ruled : Ruling learner_cells.Cell → learner_answers.Ruled
 vote_ruled (refused number) = learners.Refused number
 vote_ruled (sends verdict message cell) = learners.Held cell
-vote_ruled (counts verdict cell) = if eqb (verdict_number verdict) 104 then learners.Held cell else learners.Decided cell
+vote_ruled (counts verdict cell) = when eqb (verdict_number verdict) 104 then learners.Held cell else learners.Decided cell
 
 vote-ruled : (answer : learner_answers.Ruled) → vote_ruled (learner_rule.ruling_of answer) ≡ answer
-unfolding vote_ruled if◌then◌else◌
+unfolding vote_ruled when◌then◌else◌
 vote-ruled (learners.Held cell) = refl
 vote-ruled (learners.Decided cell) = refl
 vote-ruled (learners.Refused number) = refl

@@ -7,7 +7,7 @@ use mathlib.Core.List.{List, ◌∷◌}
 use Rattle.basics.specs.declared.Instance.{Instance}
 use Rattle.basics.specs.declared.Round.{Round}
 use Rattle.basics.specs.declared.Value.{Value}
-use Rattle.basics.specs.Ladder.{if◌then◌else◌}
+use Rattle.basics.specs.Ladder.{when◌then◌else◌}
 use Rattle.basics.specs.Rounds.{owned_or_0, at_most}
 use Rattle.basics.specs.Votes.{is_vote_up_to}
 use Rattle.basics.specs.Verdict.{says_send}
@@ -123,7 +123,7 @@ module _ {s : Settings} {w : Boxes} (formed : WellFormed s w) (h : Represents s 
         (λ x there. vote-still h.told i.0 next grows (acceptor own) m writable (h.told.votes i x there))))
 
   pub acceptor-represents : (p : List ℕ) → Handed w p → Represents s (after_acceptor w own (acceptor_step s own p t))
-  unfolding acceptor_step players.acceptor says_send ruled if◌then◌else◌
+  unfolding acceptor_step players.acceptor says_send ruled when◌then◌else◌
   acceptor-represents p handed =
       step-acts (players.acceptor s own) p t (λ o. Represents s (after_acceptor w own o)) (refuses p)
       (λ m. place-elim (λ n. says_send n ≡ false) s.instances m refl refl)

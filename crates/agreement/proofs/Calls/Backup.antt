@@ -8,7 +8,7 @@ use Rattle.basics.specs.declared.Instance.{Instance}
 use Rattle.basics.specs.declared.Round.{Round}
 use Rattle.basics.specs.declared.Value.{Value}
 use Rattle.basics.specs.declared.Verdict.TheVariants.{ToAcceptors, Hold}
-use Rattle.basics.specs.Ladder.{if◌then◌else◌}
+use Rattle.basics.specs.Ladder.{when◌then◌else◌}
 use Rattle.basics.specs.Rounds.{the_round}
 use Rattle.basics.specs.Verdict.{says_send}
 use Rattle.basics.proofs.Ladder.{if-elim, if-false}
@@ -157,7 +157,7 @@ module _ {s : Settings} {w : Boxes} (formed : WellFormed s w) (h : Represents s 
         → c.phase ≡ asking → Owned own c.round → a < s.acceptors → within s.acceptors c.set ≡ true
         → (reaches_majority s.acceptors (counting c a k v).set ≡ true → Writable (kind.Propose i (counting c a k v).round (chosen (counting c a k v))))
         → Represents s (after_backup w own (ruled p t (with_cell t index) (when_majority s.acceptors i (counting c a k v))))
-    unfolding when_majority ruled says_send if◌then◌else◌
+    unfolding when_majority ruled says_send when◌then◌else◌
     takes a r k v p c e told same asks mine known inside writable =
         subst (λ (d : Cell). c ≡ d → Represents s (after_backup w own (ruled p t (with_cell t index) (when_majority s.acceptors i (counting d a k v))))) e
         (λ back.
@@ -198,7 +198,7 @@ module _ {s : Settings} {w : Boxes} (formed : WellFormed s w) (h : Represents s 
 
   pub start-represents : (i : Instance) (floor : ℕ) (v : Value) (buffer : List ℕ) → Given i floor v buffer
       → Represents s (after_start w own i v (backup_start s own i floor v buffer t))
-  unfolding says_send ruled if◌then◌else◌
+  unfolding says_send ruled when◌then◌else◌
   start-represents i floor v buffer given =
       start-elim s own i floor v buffer t (λ o. Represents s (after_start w own i v o)) (start-refuses i v buffer 7 refl) (start-refuses i v buffer 1 refl)
       (start-refuses i v buffer 8 refl)

@@ -9,7 +9,7 @@ use lib.Dec.{eqb}
 use borrow.Author.Tests.{eqb-true}
 use Rattle.basics.specs.declared.Value.{Value}
 use Rattle.basics.specs.declared.Verdict.TheVariants.{Hold, Decided}
-use Rattle.basics.specs.Ladder.{if◌then◌else◌}
+use Rattle.basics.specs.Ladder.{when◌then◌else◌}
 use Rattle.basics.specs.Rounds.{the_instance, the_round}
 use Rattle.basics.specs.Values.{same_value}
 use Rattle.basics.specs.Verdict.{says_send}
@@ -36,8 +36,8 @@ use Rattle.agreement.proofs.Slot.Learner.{listening, listens, joins}
 use Rattle.agreement.proofs.Representing.{Told, PlacedAt, Represents, met, met-vote, told_same, wants-moved}
 use Rattle.agreement.proofs.Representing.{cells-moved, acceptors-same, backups-same, all_sound, still_placed, unopened-still, step-acts}
 
-same_value : (v u : Value) → same_value v u ≡ true → v ≡ u
-same_value v u e =
+same_value-equal : (v u : Value) → same_value v u ≡ true → v ≡ u
+same_value-equal v u e =
     let halves = both_true (eqb v.high u.high) (eqb v.low u.low) e in
     λ i. record { high = eqb-true v.high u.high halves.0 i; low = eqb-true v.low u.low halves.1 i }
 
@@ -61,7 +61,7 @@ module _ {s : Settings} {w : Boxes} (h : Represents s w) (which : ℕ) where
   -- a sound cell is stored, whether it holds or decides
   stores : (p : List ℕ) (j index : ℕ) (c : Cell) → PlacedAt s.instances j index → Sized s.instances t → LearnerSound (h.slots j).votes c
       → Represents s (after_learner w which (ruled p t (with_cell t index) (hold_or_decide s.acceptors c)))
-  unfolding hold_or_decide ruled says_send if◌then◌else◌
+  unfolding hold_or_decide ruled says_send when◌then◌else◌
   stores p j index c at sized sound =
       if-elim (λ r. Represents s (after_learner w which (ruled p t (with_cell t index) r))) (is_decided s.acceptors c) (counts Decided c) (counts Hold c)
       (λ _. stored) (λ _. stored)
@@ -113,5 +113,5 @@ module _ {s : Settings} {w : Boxes} (h : Represents s w) (which : ℕ) where
       (λ _ _ _ current agrees _. stores p i.0 index _ at sized (joins votes c.set a r v new (λ b m.
       let heard = subst (LearnerSound votes) (sym (h.learners which i.0 index at)) ((h.sound i.0).learners which) b m in
       let same-round : c.round ≡ r = sym (λ j. the_round (eqb-true r.0 c.round.0 current j)) in
-      subst (λ x. Mem (vote b r x) votes) (sym (same_value v c.value agrees)) (subst (λ x. Mem (vote b x c.value) votes) same-round heard)))))
+      subst (λ x. Mem (vote b r x) votes) (sym (same_value-equal v c.value agrees)) (subst (λ x. Mem (vote b x c.value) votes) same-round heard)))))
       (refuses p 6 refl))

@@ -7,7 +7,7 @@ use mathlib.Core.List.{List, [], ◌∷◌}
 use native.Mathlib.Omega.{arith}
 use lib.ListN.{get_or}
 use Rattle.basics.specs.declared.Value.{Value}
-use Rattle.basics.specs.Ladder.{if◌then◌else◌}
+use Rattle.basics.specs.Ladder.{when◌then◌else◌}
 use Rattle.basics.specs.Rounds.{the_instance, the_round}
 use Rattle.basics.specs.Verdict.{says_send}
 use Rattle.basics.proofs.Ladder.{if-false}
@@ -88,7 +88,7 @@ module _ {s : Settings} {w : Boxes} (formed : WellFormed s w) (h : Represents s 
       }
 
   pub primary-represents : (p : List ℕ) → Handed w p → Represents s (after_primary w p (primary_step s p w.primary))
-  unfolding primary_request primary_by_reference says_send ruled if◌then◌else◌
+  unfolding primary_request primary_by_reference says_send ruled when◌then◌else◌
   primary-represents p handed =
       let held = cell (the_instance next) in
       subst (λ o. Represents s (after_primary w p o)) (sym (ap (primary_step s p) formed.primary.is ∙ slice-is-the-record s p next))

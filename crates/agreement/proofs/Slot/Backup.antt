@@ -12,7 +12,7 @@ use lib.Dec.{eqb}
 use borrow.Author.Tests.{leb-true, leb-false}
 use Rattle.basics.specs.declared.Round.{Round}
 use Rattle.basics.specs.declared.Value.{Value}
-use Rattle.basics.specs.Ladder.{if◌then◌else◌}
+use Rattle.basics.specs.Ladder.{when◌then◌else◌}
 use Rattle.basics.specs.Rounds.{the_round, is_none, owner_of, rank, at_most}
 use Rattle.basics.proofs.Ladder.{if-elim}
 use Rattle.basics.proofs.Rounds.{rank-none, rank-some}
@@ -32,7 +32,7 @@ spent-most c = if-elim (λ n. c.round.0 + n ≤ c.round.0 + 1) (eqb c.phase prop
 
 -- one that asks has proposed nothing in its round
 spent-asking : (c : Cell) → c.phase ≡ asking → spent c ≡ c.round.0
-unfolding if◌then◌else◌
+unfolding when◌then◌else◌
 spent-asking c e = rw e (omega arith)
 
 module _ {M : ℕ} {s : Slot} (sound : Sound M s) (b : ℕ) where
@@ -44,7 +44,7 @@ module _ {M : ℕ} {s : Slot} (sound : Sound M s) (b : ℕ) where
 
   -- A start: a round above the cell's.
   pub starts : (r : Round) (v : Value) → (s.backup b).round.0 < r.0 → Sound M (moving s (put s.backup b (started r v)))
-  unfolding if◌then◌else◌
+  unfolding when◌then◌else◌
   starts r v above =
       replaces (started r v) (record { counted = λ a m. absurd (omega (arith, empty-bit a, m)); proposed = λ e. absurd (true≢false e) })
       (omega (arith, spent-most (s.backup b)))
@@ -91,7 +91,7 @@ module _ {M : ℕ} {s : Slot} (sound : Sound M s) (b : ℕ) where
         something e = best-safe e (dec_lt t c.best_vote_round.0)
 
     pub backup-proposes : Sound M (proposing (moving s (put s.backup b (closed c))) (propose c.round (chosen c)))
-    unfolding if◌then◌else◌
+    unfolding when◌then◌else◌
     backup-proposes =
         proposes (replaces (closed c) (record { counted = sound-cell.counted; proposed = sound-cell.proposed }) (omega arith)) (propose c.round (chosen c)) mine.some
         (λ h. rw (mine.mine, put_same) (omega arith))
