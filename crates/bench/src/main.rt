@@ -1,37 +1,40 @@
 // The bench: one depot with M = 3 and N = 1,024, all players fresh, driven by lines of standard input. The tables are arrays of `main`, which lends a player
 // its own where a line is for it: each function that is handed many tables is dear to check.
+#![tactic(auto)]
+
 ghost use Rattle.std.specs.Prelude.{◌<◌, ◌≡◌};
 ghost use Rattle.bench.specs.Bench.{fresh_vote_rounds};
 
 use basics::{Value, Verdict};
 use bench_lines::Command;
-use libc::{STDIN_FILENO, STDOUT_FILENO};
+use std::io;
+use std::io::Read;
 
 const ACCEPTORS: u32 = 3;
 
 const INSTANCES: u32 = 1024;
 
 // What of the chunk last read is still to be taken.
-#[derive(Drop)]
+#[derive(Clone, Copy)]
 struct Input {
     from: usize,
     until: usize,
 }
 
-#[derive(Drop)]
+#[derive(Clone, Copy)]
 enum Taken {
     Byte(u8, Input),
     End,
 }
 
-#[derive(Drop)]
+#[derive(Clone, Copy)]
 enum Next {
     // A line's length, 128 where it is longer than any good line, and the input after it.
     Line(usize, Input),
     End,
 }
 
-#[derive(Drop)]
+#[derive(Clone, Copy)]
 enum Asked {
     Line(Command, Input),
     End,
@@ -40,12 +43,8 @@ enum Asked {
 // ---- lines of the input
 
 // Reads once: how many bytes of the chunk are new, 0 at the end of the input.
-fn refill(chunk: &mut [u8; 4096]) -> usize {
-    let got = libc::read(STDIN_FILENO, chunk);
-    if got <= 0 {
-        return 0;
-    }
-    io::count(got, chunk)
+fn refill(reader: &mut impl Read, chunk: &mut [u8; 4096]) -> io::Result<usize> {
+    reader.read(chunk)
 }
 
 fn byte_at(chunk: &[u8; 4096], at: usize) -> u8 {
@@ -53,29 +52,29 @@ fn byte_at(chunk: &[u8; 4096], at: usize) -> u8 {
 }
 
 // One byte of the input, by a read where the chunk is used up.
-fn next_byte(input: Input, chunk: &mut [u8; 4096]) -> Taken {
+fn next_byte(reader: &mut impl Read, input: Input, chunk: &mut [u8; 4096]) -> io::Result<Taken> {
     let from = input.from;
     let until = input.until;
     if from < until {
-        return Taken::Byte(
+        return Ok(Taken::Byte(
             byte_at(chunk, from),
             Input {
                 from: from + 1,
                 until,
             },
-        );
+        ));
     }
-    let count = refill(chunk);
+    let count = refill(reader, chunk)?;
     if count == 0 {
-        return Taken::End;
+        return Ok(Taken::End);
     }
-    Taken::Byte(
+    Ok(Taken::Byte(
         byte_at(chunk, 0),
         Input {
             from: 1,
             until: count,
         },
-    )
+    ))
 }
 
 // The byte is kept while there is room.
@@ -87,28 +86,31 @@ fn keep(line: &mut [u8; 128], length: usize, byte: u8) -> usize {
     length + 1
 }
 
-// A proved loop has to end, and nothing says that the input does: the loop counts its turns down from a number that no run uses up. A line ends at its
+// A proved loop has to end, and nothing says that the input does: the loop counts its turns up to a number that no run reaches. A line ends at its
 // newline, or at the end of the input if anything stands before that.
-fn next_line(start: Input, chunk: &mut [u8; 4096], line: &mut [u8; 128]) -> Next {
+fn next_line(
+    reader: &mut impl Read,
+    start: Input,
+    chunk: &mut [u8; 4096],
+    line: &mut [u8; 128],
+) -> io::Result<Next> {
     let mut input = start;
     let mut length: usize = 0;
-    let mut turns = u64::MAX;
-    while 0 < turns {
-        turns -= 1;
-        let taken = next_byte(input, chunk);
+    for _ in 0..u64::MAX {
+        let taken = next_byte(reader, input, chunk)?;
         let Taken::Byte(byte, rest) = taken else {
             break;
         };
         input = rest;
         if byte == 10 {
-            return Next::Line(length, input);
+            return Ok(Next::Line(length, input));
         }
         length = keep(line, length, byte);
     }
     if length == 0 {
-        return Next::End;
+        return Ok(Next::End);
     }
-    Next::Line(length, input)
+    Ok(Next::Line(length, input))
 }
 
 // ---- what a line says
@@ -123,84 +125,72 @@ fn command_in(line: &[u8], length: usize, packet: &mut [u8; 36]) -> Command {
 
 // What the input's next line asks for, and the input after it.
 fn next_command(
+    reader: &mut impl Read,
     start: Input,
     chunk: &mut [u8; 4096],
     line: &mut [u8; 128],
     packet: &mut [u8; 36],
-) -> Asked {
-    let taken = next_line(start, chunk, line);
+) -> io::Result<Asked> {
+    let taken = next_line(reader, start, chunk, line)?;
     let Next::Line(length, input) = taken else {
-        return Asked::End;
+        return Ok(Asked::End);
     };
-    Asked::Line(command_in(line, length, packet), input)
+    Ok(Asked::Line(command_in(line, length, packet), input))
 }
 
 // ---- what a line prints
 
-fn print_name(letter: &[u8], number: u32) {
-    io::write_all(STDOUT_FILENO, letter);
-    io::print_decimal(STDOUT_FILENO, number as u64);
+fn print_name(rt: &impl Print, letter: &[u8], number: u32) -> io::Result<()> {
+    rt.write_all(letter)?;
+    print!(rt; "{number}")
 }
 
-fn print_player(command: Command) {
+fn print_player(rt: &impl Print, command: Command) -> io::Result<()> {
     match command {
-        Command::Primary => {
-            io::write_all(STDOUT_FILENO, b"p");
-        }
-        Command::Acceptor(number) => print_name(b"a", number),
-        Command::Backup(number) => print_name(b"b", number),
-        Command::Learner => {
-            io::write_all(STDOUT_FILENO, b"l");
-        }
-        Command::Start { own, .. } => print_name(b"s", own),
-        Command::Bad => {}
+        Command::Primary => rt.write_all(b"p"),
+        Command::Acceptor(number) => print_name(rt, b"a", number),
+        Command::Backup(number) => print_name(rt, b"b", number),
+        Command::Learner => rt.write_all(b"l"),
+        Command::Start { own, .. } => print_name(rt, b"s", own),
+        Command::Bad => Ok(()),
     }
 }
 
-fn print_verdict(answer: u32) {
+fn print_verdict(rt: &impl Print, answer: u32) -> io::Result<()> {
     if answer == basics::verdict_number(Verdict::ToAcceptors) {
-        io::write_all(STDOUT_FILENO, b" acceptors ");
-        return;
+        return rt.write_all(b" acceptors ");
     }
     if answer == basics::verdict_number(Verdict::ToLeader) {
-        io::write_all(STDOUT_FILENO, b" leader ");
-        return;
+        return rt.write_all(b" leader ");
     }
     if answer == basics::verdict_number(Verdict::ToLearners) {
-        io::write_all(STDOUT_FILENO, b" learners ");
-        return;
+        return rt.write_all(b" learners ");
     }
     if answer == basics::verdict_number(Verdict::Hold) {
-        io::write_all(STDOUT_FILENO, b" hold ");
-        return;
+        return rt.write_all(b" hold ");
     }
     if answer == basics::verdict_number(Verdict::Decided) {
-        io::write_all(STDOUT_FILENO, b" decided ");
-        return;
+        return rt.write_all(b" decided ");
     }
-    io::write_all(STDOUT_FILENO, b" r");
-    io::print_decimal(STDOUT_FILENO, answer as u64);
-    io::write_all(STDOUT_FILENO, b" ");
+    print!(rt; " r{answer} ")
 }
 
 // 72 hex digits, by the numbers of 16 and, at the end, 8 digits that the bytes are.
-fn print_packet(packet: &[u8; 36]) {
-    io::print_hex(STDOUT_FILENO, numbers::read_u64(packet, 0), 16);
-    io::print_hex(STDOUT_FILENO, numbers::read_u64(packet, 8), 16);
-    io::print_hex(STDOUT_FILENO, numbers::read_u64(packet, 16), 16);
-    io::print_hex(STDOUT_FILENO, numbers::read_u64(packet, 24), 16);
-    io::print_hex(STDOUT_FILENO, numbers::read_u32(packet, 32) as u64, 8);
-    io::write_all(STDOUT_FILENO, b"\n");
+fn print_packet(rt: &impl Print, packet: &[u8; 36]) -> io::Result<()> {
+    print!(rt; "{:016x}", numbers::read_u64(packet, 0))?;
+    print!(rt; "{:016x}", numbers::read_u64(packet, 8))?;
+    print!(rt; "{:016x}", numbers::read_u64(packet, 16))?;
+    print!(rt; "{:016x}", numbers::read_u64(packet, 24))?;
+    println!(rt; "{:08x}", numbers::read_u32(packet, 32))
 }
 
-fn print_line(command: Command, answer: u32, packet: &[u8; 36]) {
+fn print_line(rt: &impl Print, command: Command, answer: u32, packet: &[u8; 36]) -> io::Result<()> {
     if let Command::Bad = command {
-        io::write_all(STDOUT_FILENO, b"? bad -\n");
-        return;
+        return rt.write_all(b"? bad -\n");
     }
-    print_player(command);
-    print_verdict(answer);
-    print_packet(packet);
+    print_player(rt, command)?;
+    print_verdict(rt, answer)?;
+    print_packet(rt, packet)
 }
 
 // ---- the players: like players' tables of one kind are an array, with a table for each
@@ -415,7 +405,8 @@ fn give_to_learner(
 // ---- the run
 
 // One line after the other: what it asks for is done, and told in a line.
-fn main() {
+fn main(rt: HostRuntime) -> io::Result<()> {
+    let mut reader = rt.reader();
     let mut chunk = [0u8; 4096];
     let mut line = [0u8; 128];
     let mut next = [0u32; 1];
@@ -442,15 +433,13 @@ fn main() {
         &mut own_values,
     );
     set_learner_fresh(&mut learner_rounds, &mut voters, &mut learner_values);
-    io::write_all(STDOUT_FILENO, b"player verdict packet\n");
+    rt.write_all(b"player verdict packet\n")?;
     let mut input = Input { from: 0, until: 0 };
-    let mut turns = u64::MAX;
-    while 0 < turns {
-        turns -= 1;
+    for _ in 0..u64::MAX {
         let mut packet = [0u8; 36];
-        let asked = next_command(input, &mut chunk, &mut line, &mut packet);
+        let asked = next_command(&mut reader, input, &mut chunk, &mut line, &mut packet)?;
         let Asked::Line(command, rest) = asked else {
-            return;
+            return Ok(());
         };
         input = rest;
         let answer = match command {
@@ -498,6 +487,7 @@ fn main() {
             ),
             Command::Bad => 0,
         };
-        print_line(command, answer, &packet);
+        print_line(&rt, command, answer, &packet)?;
     }
+    Ok(())
 }

@@ -1,26 +1,27 @@
 // Runs the cases of the paper that are not starred, and the change requests' cases of holes and of rounds, M = 3, N = 8 unless said, and prints each with its
 // answer. The starred ones are proved, in proved_cases, and so are those of holes and of rounds.
+#![tactic(auto)]
+
 use basics::{Instance, Round, Value};
 use learner_cell::Cell;
 use learner_holes::Hole;
-use libc::STDOUT_FILENO;
 use messages::Message;
 use quorum::Settings;
+use std::io;
 
-fn main() {
-    print(b"instance 7: ", propose_to_acceptor(7));
-    print(b"instance 8: ", propose_to_acceptor(8));
-    print(b"35 bytes: ", packet_of_35_bytes());
-    print(b"37 bytes: ", packet_of_37_bytes());
-    requests_for_one_instance();
-    first_holes();
-    owners_and_next_rounds();
+fn main(rt: HostRuntime) -> io::Result<()> {
+    print(&rt, b"instance 7: ", propose_to_acceptor(7))?;
+    print(&rt, b"instance 8: ", propose_to_acceptor(8))?;
+    print(&rt, b"35 bytes: ", packet_of_35_bytes())?;
+    print(&rt, b"37 bytes: ", packet_of_37_bytes())?;
+    requests_for_one_instance(&rt)?;
+    first_holes(&rt)?;
+    owners_and_next_rounds(&rt)
 }
 
-fn print(name: &[u8], answer: u32) {
-    io::write_all(STDOUT_FILENO, name);
-    io::print_decimal(STDOUT_FILENO, answer as u64);
-    io::write_all(STDOUT_FILENO, b"\n");
+fn print(rt: &impl Print, name: &[u8], answer: u32) -> io::Result<()> {
+    rt.write_all(name)?;
+    println!(rt; "{answer}")
 }
 
 // A value ending in 2a, other bytes zero.
@@ -55,7 +56,7 @@ fn packet_of_37_bytes() -> u32 {
     give_to_fresh_acceptor(&mut packet)
 }
 
-fn requests_for_one_instance() {
+fn requests_for_one_instance(rt: &impl Print) -> io::Result<()> {
     let mut next = [0u32; 1];
     let request = Message::Request {
         switch: 9,
@@ -64,46 +65,48 @@ fn requests_for_one_instance() {
     let mut packet = [0u8; 36];
     wire::put_message(&mut packet, request);
     print(
+        rt,
         b"N = 1, first request: ",
         primary::myrthakel_primary_step(3, 1, &mut packet, &mut next),
-    );
+    )?;
     wire::put_message(&mut packet, request);
     print(
+        rt,
         b"N = 1, second request: ",
         primary::myrthakel_primary_step(3, 1, &mut packet, &mut next),
-    );
+    )
 }
 
 // By M, the sets of cells 0 to 7, a digit each, and the value voted for: a vote is 1, two are 3, three are 7.
-fn first_holes() {
+fn first_holes(rt: &impl Print) -> io::Result<()> {
     // all fresh
-    print_hole_of(3, 0x0000_0000, 42);
+    print_hole_of(rt, 3, 0x0000_0000, 42)?;
     // 1 vote in 0
-    print_hole_of(3, 0x1000_0000, 42);
+    print_hole_of(rt, 3, 0x1000_0000, 42)?;
     // 0 and 1 decided, one vote in 2
-    print_hole_of(3, 0x3310_0000, 42);
+    print_hole_of(rt, 3, 0x3310_0000, 42)?;
     // 5 untouched, one vote in 6, nothing decided; 6 decided, and those before 5
-    print_hole_of(3, 0x0000_0010, 42);
-    print_hole_of(3, 0x3333_3030, 42);
+    print_hole_of(rt, 3, 0x0000_0010, 42)?;
+    print_hole_of(rt, 3, 0x3333_3030, 42)?;
     // 0 and 2 decided, 1 untouched, one vote in 3
-    print_hole_of(3, 0x3031_0000, 42);
+    print_hole_of(rt, 3, 0x3031_0000, 42)?;
     // 0 untouched, one vote in 1, 3 decided
-    print_hole_of(3, 0x0103_0000, 42);
+    print_hole_of(rt, 3, 0x0103_0000, 42)?;
     // all but 7 decided, one vote in 7
-    print_hole_of(3, 0x3333_3331, 42);
+    print_hole_of(rt, 3, 0x3333_3331, 42)?;
     // all decided
-    print_hole_of(3, 0x3333_3333, 42);
+    print_hole_of(rt, 3, 0x3333_3333, 42)?;
     // N = 1, one vote; decided
-    print_hole_of_one(1, 42);
-    print_hole_of_one(3, 42);
+    print_hole_of_one(rt, 1, 42)?;
+    print_hole_of_one(rt, 3, 42)?;
     // M = 5, two votes in 0; three votes in 0
-    print_hole_of(5, 0x3000_0000, 42);
-    print_hole_of(5, 0x7000_0000, 42);
+    print_hole_of(rt, 5, 0x3000_0000, 42)?;
+    print_hole_of(rt, 5, 0x7000_0000, 42)?;
     // a vote for null, one of three, in 0
-    print_hole_of(3, 0x1000_0000, 0);
+    print_hole_of(rt, 3, 0x1000_0000, 0)
 }
 
-fn print_hole_of(acceptors: u32, digits: u32, low: u64) {
+fn print_hole_of(rt: &impl Print, acceptors: u32, digits: u32, low: u64) -> io::Result<()> {
     let mut rounds = [0u32; 8];
     let mut sets = [0u8; 8];
     let mut values = [0u64; 16];
@@ -112,40 +115,35 @@ fn print_hole_of(acceptors: u32, digits: u32, low: u64) {
         acceptors,
         instances: 8,
     };
-    io::write_all(STDOUT_FILENO, b"sets ");
-    io::print_hex(STDOUT_FILENO, digits as u64, 8);
+    print!(rt; "sets {digits:08x}")?;
     print_hole(
+        rt,
         low,
         acceptors,
         learner_holes::find_hole(settings, &rounds, &sets, &values),
-    );
+    )
 }
 
-fn print_hole_of_one(set: u8, low: u64) {
+fn print_hole_of_one(rt: &impl Print, set: u8, low: u64) -> io::Result<()> {
     let settings = Settings {
         acceptors: 3,
         instances: 1,
     };
-    io::write_all(STDOUT_FILENO, b"one set ");
-    io::print_hex(STDOUT_FILENO, set as u64, 1);
+    print!(rt; "one set {set:x}")?;
     print_hole(
+        rt,
         low,
         3,
         learner_holes::find_hole(settings, &[0], &[set], &[0, low]),
-    );
+    )
 }
 
-fn print_hole(low: u64, acceptors: u32, hole: Hole) {
-    io::write_all(STDOUT_FILENO, b" for value ");
-    io::print_decimal(STDOUT_FILENO, low);
-    io::write_all(STDOUT_FILENO, b", M = ");
-    io::print_decimal(STDOUT_FILENO, acceptors as u64);
+fn print_hole(rt: &impl Print, low: u64, acceptors: u32, hole: Hole) -> io::Result<()> {
+    print!(rt; " for value {low}, M = {acceptors}")?;
     match hole {
-        Hole::Found(instance) => print(b", first hole: ", instance.0),
-        Hole::Refused(number) => print(b", refused: ", number),
-        Hole::NoHole => {
-            io::write_all(STDOUT_FILENO, b", no hole\n");
-        }
+        Hole::Found(instance) => print(rt, b", first hole: ", instance.0),
+        Hole::Refused(number) => print(rt, b", refused: ", number),
+        Hole::NoHole => rt.write_all(b", no hole\n"),
     }
 }
 
@@ -172,42 +170,39 @@ fn cell_of(set: u8, low: u64) -> Cell {
 }
 
 // The least numbers, with a round of nobody's among them, and the last ones, with none at the end.
-fn owners_and_next_rounds() {
-    print_round(0);
-    print_round(1);
-    print_round(2);
-    print_round(3);
-    print_round(4);
-    print_round(4294967288);
-    print_round(4294967290);
-    print_round(4294967291);
-    print_round(4294967293);
-    print_round(4294967294);
-    print_round(basics::NONE);
+fn owners_and_next_rounds(rt: &impl Print) -> io::Result<()> {
+    print_round(rt, 0)?;
+    print_round(rt, 1)?;
+    print_round(rt, 2)?;
+    print_round(rt, 3)?;
+    print_round(rt, 4)?;
+    print_round(rt, 4294967288)?;
+    print_round(rt, 4294967290)?;
+    print_round(rt, 4294967291)?;
+    print_round(rt, 4294967293)?;
+    print_round(rt, 4294967294)?;
+    print_round(rt, basics::NONE)
 }
 
-fn print_round(number: u32) {
-    io::write_all(STDOUT_FILENO, b"round ");
-    io::print_decimal(STDOUT_FILENO, number as u64);
-    print_owner(basics::owner(Round(number)));
-    io::write_all(STDOUT_FILENO, b", next of 1, 2, 3:");
-    print_next(1, number);
-    print_next(2, number);
-    print_next(3, number);
-    io::write_all(STDOUT_FILENO, b"\n");
+fn print_round(rt: &impl Print, number: u32) -> io::Result<()> {
+    print!(rt; "round {number}")?;
+    print_owner(rt, basics::owner(Round(number)))?;
+    rt.write_all(b", next of 1, 2, 3:")?;
+    print_next(rt, 1, number)?;
+    print_next(rt, 2, number)?;
+    print_next(rt, 3, number)?;
+    rt.write_all(b"\n")
 }
 
-fn print_owner(owner: u16) {
+fn print_owner(rt: &impl Print, owner: u16) -> io::Result<()> {
     if owner == basics::NOBODY {
-        io::write_all(STDOUT_FILENO, b": owner nobody");
-        return;
+        return rt.write_all(b": owner nobody");
     }
-    io::write_all(STDOUT_FILENO, b": owner ");
-    io::print_decimal(STDOUT_FILENO, owner as u64);
+    print!(rt; ": owner {owner}")
 }
 
 // A start on a fresh cell: the round that it takes, or the refusal.
-fn print_next(own: u32, floor: u32) {
+fn print_next(rt: &impl Print, own: u32, floor: u32) -> io::Result<()> {
     let mut packet = [0u8; 36];
     let mut rounds = [0u32; 8];
     let answer = backup::myrthakel_backup_start(
@@ -227,6 +222,5 @@ fn print_next(own: u32, floor: u32) {
         &mut [0u64; 16],
     );
     let next = if answer == 101 { rounds[0] } else { answer };
-    io::write_all(STDOUT_FILENO, b" ");
-    io::print_decimal(STDOUT_FILENO, next as u64);
+    print!(rt; " {next}")
 }

@@ -1,19 +1,22 @@
 // A depot's day, replayed: a delivered list on standard input, a value of 32 hex digits to a line, is entered into a fresh ride ledger.
-use entries::Entry;
-use libc::{STDIN_FILENO, STDOUT_FILENO};
-use passes::Pass;
+#![tactic(auto)]
 
-// A proved loop has to end, and nothing says that the input does: each loop over it counts its turns down from a number that no run uses up. It is 2^56 - 1, so
+use entries::Entry;
+use passes::Pass;
+use std::io;
+use std::io::Read;
+
+// A proved loop has to end, and nothing says that the input does: each loop over it counts its turns up to a number that no run reaches. It is 2^56 - 1, so
 // that as many sales of at most 255 rides each sell fewer than 2^64, and no sum overflows.
 const MOST_TURNS: u64 = 72057594037927935;
 
-#[derive(Drop)]
+#[derive(Clone, Copy)]
 enum Taken {
     Byte(u8),
     End,
 }
 
-#[derive(Drop)]
+#[derive(Clone, Copy)]
 enum Next {
     // A line's length, 33 where it is longer than a value.
     Line(usize),
@@ -23,12 +26,12 @@ enum Next {
 // ---- lines of the input
 
 // A read for each byte: a day's list is short.
-fn next_byte() -> Taken {
+fn next_byte(input: &mut impl Read) -> io::Result<Taken> {
     let mut byte = [0u8; 1];
-    if io::read_full(STDIN_FILENO, &mut byte) == 0 {
-        return Taken::End;
+    if input.read(&mut byte)? == 0 {
+        return Ok(Taken::End);
     }
-    Taken::Byte(byte[0])
+    Ok(Taken::Byte(byte[0]))
 }
 
 // The byte is kept while there is room.
@@ -41,24 +44,22 @@ fn keep(line: &mut [u8; 32], length: usize, byte: u8) -> usize {
 }
 
 // A line ends at its newline, or at the end of the input if anything stands before that.
-fn next_line(line: &mut [u8; 32]) -> Next {
+fn next_line(input: &mut impl Read, line: &mut [u8; 32]) -> io::Result<Next> {
     let mut length: usize = 0;
-    let mut turns = MOST_TURNS;
-    while 0 < turns {
-        turns -= 1;
-        let taken = next_byte();
+    for _ in 0..MOST_TURNS {
+        let taken = next_byte(input)?;
         let Taken::Byte(byte) = taken else {
             break;
         };
         if byte == 10 {
-            return Next::Line(length);
+            return Ok(Next::Line(length));
         }
         length = keep(line, length, byte);
     }
     if length == 0 {
-        return Next::End;
+        return Ok(Next::End);
     }
-    Next::Line(length)
+    Ok(Next::Line(length))
 }
 
 // Whether the line is a value, whose bytes then stand in the buffer.
@@ -102,69 +103,68 @@ fn boardings(answer: u32) -> u8 {
 
 // ---- what is printed
 
-fn print_number(name: &[u8], number: u64) {
-    io::write_all(STDOUT_FILENO, name);
-    io::print_decimal(STDOUT_FILENO, number);
+fn print_number(rt: &impl Print, name: &[u8], number: u64) -> io::Result<()> {
+    rt.write_all(name)?;
+    print!(rt; "{number}")
 }
 
-fn print_answer(answer: u32) {
+fn print_answer(rt: &impl Print, answer: u32) -> io::Result<()> {
     if answer == ledger::SOLD {
-        io::write_all(STDOUT_FILENO, b" sold\n");
-        return;
+        return rt.write_all(b" sold\n");
     }
     if answer == ledger::BOARDED {
-        io::write_all(STDOUT_FILENO, b" boarded\n");
-        return;
+        return rt.write_all(b" boarded\n");
     }
     if answer == ledger::SKIPPED {
-        io::write_all(STDOUT_FILENO, b" skipped\n");
-        return;
+        return rt.write_all(b" skipped\n");
     }
-    print_number(b" r", answer as u64);
-    io::write_all(STDOUT_FILENO, b"\n");
+    print_number(rt, b" r", answer as u64)?;
+    rt.write_all(b"\n")
 }
 
 // The digits as they stood in the line.
-fn print_entry(line: &[u8; 32], answer: u32) {
-    io::write_all(STDOUT_FILENO, line);
-    print_answer(answer);
+fn print_entry(rt: &impl Print, line: &[u8; 32], answer: u32) -> io::Result<()> {
+    rt.write_all(line)?;
+    print_answer(rt, answer)
 }
 
-fn print_pass(pass: Pass) {
-    print_number(b"pass ", pass.number as u64);
-    print_number(b" left ", pass.rides_left as u64);
-    print_number(b" day ", pass.last_day as u64);
-    print_number(b" scan ", pass.last_scan as u64);
-    io::write_all(STDOUT_FILENO, b"\n");
+fn print_pass(rt: &impl Print, pass: Pass) -> io::Result<()> {
+    print_number(rt, b"pass ", pass.number as u64)?;
+    print_number(rt, b" left ", pass.rides_left as u64)?;
+    print_number(rt, b" day ", pass.last_day as u64)?;
+    print_number(rt, b" scan ", pass.last_scan as u64)?;
+    rt.write_all(b"\n")
 }
 
 // The passes in order of sale. The answer is how many rides are left on all of them.
 fn print_passes(
+    rt: &impl Print,
     passes: &[u32; 256],
     rides_left: &[u8; 256],
     last_days: &[u16; 256],
     last_scans: &[u32; 256],
     count: u32,
-) -> u64 {
+) -> io::Result<u64> {
     let mut left: u64 = 0;
     for place in 0..count {
         let pass = passes::pass_at(passes, rides_left, last_days, last_scans, place as usize);
-        print_pass(pass);
+        print_pass(rt, pass)?;
         left += pass.rides_left as u64;
     }
-    left
+    Ok(left)
 }
 
-fn print_sums(sold: u64, boarded: u64, left: u64) {
-    print_number(b"sold ", sold);
-    print_number(b" boarded ", boarded);
-    print_number(b" left ", left);
-    io::write_all(STDOUT_FILENO, b"\n");
+fn print_sums(rt: &impl Print, sold: u64, boarded: u64, left: u64) -> io::Result<()> {
+    print_number(rt, b"sold ", sold)?;
+    print_number(rt, b" boarded ", boarded)?;
+    print_number(rt, b" left ", left)?;
+    rt.write_all(b"\n")
 }
 
 // ---- the day
 
-fn main() {
+fn main(rt: HostRuntime) -> io::Result<()> {
+    let mut input = rt.reader();
     let mut passes = [0u32; 256];
     let mut rides_left = [0u8; 256];
     let mut last_days = [0u16; 256];
@@ -173,16 +173,14 @@ fn main() {
     let mut line = [0u8; 32];
     let mut sold: u64 = 0;
     let mut boarded: u64 = 0;
-    let mut turns = MOST_TURNS;
-    while 0 < turns {
-        turns -= 1;
-        let next = next_line(&mut line);
+    for _ in 0..MOST_TURNS {
+        let next = next_line(&mut input, &mut line)?;
         let Next::Line(length) = next else {
             break;
         };
         let mut value = [0u8; 16];
         if !is_value(&line, length, &mut value) {
-            io::write_all(STDOUT_FILENO, b"? bad\n");
+            rt.write_all(b"? bad\n")?;
             continue;
         }
         let answer = enter(
@@ -193,10 +191,10 @@ fn main() {
             &mut last_scans,
             &mut count,
         );
-        print_entry(&line, answer);
+        print_entry(&rt, &line, answer)?;
         sold += rides_sold(&value, answer) as u64;
         boarded += boardings(answer) as u64;
     }
-    let left = print_passes(&passes, &rides_left, &last_days, &last_scans, count);
-    print_sums(sold, boarded, left);
+    let left = print_passes(&rt, &passes, &rides_left, &last_days, &last_scans, count)?;
+    print_sums(&rt, sold, boarded, left)
 }
