@@ -2,10 +2,9 @@
 # Compilers, runners and counting, for the scripts beside it and for the gate, which source it with the repository's top as the working folder. Sourcing it changes
 # nothing: a script says by need_.. what it needs, and only that installs.
 
-# The machines that programs are built for: this one and, where it is another, x86-64, for which the toolchain writes its archives. The latter's programs then run in
-# an emulator.
-machines=("$(uname -m)")
-[ "${machines[0]}" = x86_64 ] || machines+=(x86_64)
+# The machines that programs are built for: x86-64, on which the toolchain runs, and Arm as well where MYRTHAKEL_ARM is set. Arm's programs then run in an emulator.
+machines=(x86_64)
+[ -z "${MYRTHAKEL_ARM-}" ] || machines+=(aarch64)
 
 warnings=(-Wall -Wextra -Wpedantic -Werror)
 
@@ -21,7 +20,7 @@ install_packages() { # WHAT PACKAGE..: says what is installed and what for, and 
     shift
     if [ "$(id -u)" -ne 0 ] || ! command -v apt-get >/dev/null; then stop_without "$what" "$@"; fi
     echo "installing $* by apt-get: $what is missing" >&2
-    case $* in *:amd64*) dpkg --add-architecture amd64 ;; esac
+    case $* in *:arm64*) dpkg --add-architecture arm64 ;; esac
     { apt-get update -qq && DEBIAN_FRONTEND=noninteractive apt-get install -y -qq --no-install-recommends "$@"; } >/dev/null || stop_without "$what" "$@"
 }
 
@@ -33,18 +32,18 @@ need() { # COMMAND PACKAGE..: a command, from Debian's packages where it is miss
 
 need_toolchain() {
     command -v rt >/dev/null && return
-    echo "rt, of the Rattle toolchain, is missing: README.md names the kit" >&2
+    echo "rt, of the Rattle toolchain, is missing: README.md names the kit, which runs on x86-64" >&2
     exit 2
 }
 
-need_c() { # MACHINE..: a C compiler for each, and an emulator of another machine
+need_c() { # MACHINE..: a C compiler for each, and an emulator of Arm
     local machine
     for machine in "$@"; do
-        if [ "$machine" = "${machines[0]}" ]; then
+        if [ "$machine" = x86_64 ]; then
             need cc gcc libc6-dev
         else
-            need x86_64-linux-gnu-gcc gcc-x86-64-linux-gnu libc6-dev-amd64-cross
-            need qemu-x86_64 qemu-user
+            need aarch64-linux-gnu-gcc gcc-aarch64-linux-gnu libc6-dev-arm64-cross
+            need qemu-aarch64 qemu-user
         fi
     done
 }
@@ -55,7 +54,7 @@ need_rust() { # MACHINE..: a Rust compiler for each, and a linker
     for machine in "$@"; do
         rust_compiler "$machine" >/dev/null && continue
         packages=(rustc)
-        [ "$machine" = "${machines[0]}" ] || packages+=(libstd-rust-dev:amd64)
+        [ "$machine" = x86_64 ] || packages+=(libstd-rust-dev:arm64)
         install_packages "a Rust compiler for $machine" "${packages[@]}"
         rust_compiler "$machine" >/dev/null || stop_without "a Rust compiler for $machine" "${packages[@]}"
     done
@@ -66,27 +65,27 @@ need_all() { # what the host tests need
     need_rust "${machines[@]}"
     need g++ g++
     need pkg-config pkgconf
-    need tcpdump tcpdump
+    (need tcpdump tcpdump) || true # the second judge of host/tests/capture-sums
 }
 
 # --- The toolchain, the library, and programs that link it
 
 kit() { # prints the toolchain's folder
-    echo "${RATTLE_HOME:-$(dirname "$(dirname "$(readlink -f "$(command -v rt)")")")}"
+    dirname "$(dirname "$(readlink -f "$(command -v rt)")")"
 }
 
-toolchain() { # prints the folder of its compiler and of the C library that its programs run with
-    echo "$(kit)/on/${machines[0]}/toolchain"
+toolchain() { # prints the folder of its compiler
+    echo "$(kit)/toolchain"
 }
 
 library_folder() { # MACHINE: prints where host/build has the library that programs for it link
-    if [ "$1" = "${machines[0]}" ]; then echo target/prefix/lib; else echo "target/prefix/lib/$1-linux-gnu"; fi
+    if [ "$1" = x86_64 ]; then echo target/prefix/lib; else echo "target/prefix/lib/$1-linux-gnu"; fi
 }
 
 compile_c() { # MACHINE OUT SOURCE..: a program in C with the library
     local machine=$1 out=$2 compiler=(cc)
     shift 2
-    [ "$machine" = "${machines[0]}" ] || compiler=("$machine-linux-gnu-gcc" -static)
+    [ "$machine" = x86_64 ] || compiler=("$machine-linux-gnu-gcc" -static)
     rm -f "$out"
     mkdir -p "$(dirname "$out")"
     "${compiler[@]}" -std=c11 "${warnings[@]}" -O2 "$@" "$(library_folder "$machine")/libmyrthakel.a" -o "$out"
@@ -105,7 +104,7 @@ compile_rust() { # MACHINE OUT SOURCE [WORD..]: a program in Rust with the libra
     local machine=$1 out=$2 compiler
     shift 2
     compiler=("$(rust_compiler "$machine")" --edition 2021 -C opt-level=3)
-    [ "$machine" = "${machines[0]}" ] || compiler+=(--target "$machine-unknown-linux-gnu" -C "linker=$machine-linux-gnu-gcc")
+    [ "$machine" = x86_64 ] || compiler+=(--target "$machine-unknown-linux-gnu" -C "linker=$machine-linux-gnu-gcc")
     rm -f "$out"
     mkdir -p "$(dirname "$out")"
     "${compiler[@]}" "$@" -L "$(library_folder "$machine")" -lstatic=myrthakel -o "$out"
@@ -114,16 +113,15 @@ compile_rust() { # MACHINE OUT SOURCE [WORD..]: a program in Rust with the libra
 run_on() { # MACHINE PROGRAM ARGUMENT..
     local machine=$1
     shift
-    if [ "$machine" = "${machines[0]}" ]; then "$@"; else "qemu-$machine" "$@"; fi
+    if [ "$machine" = x86_64 ]; then "$@"; else "qemu-$machine" "$@"; fi
 }
 
-run_proved() { # NAME: a program of crates/, built by rt check, on standard input; as rt runs it, by the toolchain's own loader and emulator
-    local tools
-    tools=$(toolchain)
-    (
-        PATH=$tools/bin:$PATH
-        run_on x86_64 "$tools/lib/ld-linux-x86-64.so.2" --library-path "$tools/lib" "target/bin/$1"
-    )
+build_proved() { # NAME: proves a program of crates/ and builds it. rt says so on standard error, and runs it
+    (cd "crates/$1" && rt run </dev/null >/dev/null)
+}
+
+run_proved() { # NAME: a program that was built so, on standard input
+    "crates/$1/out/$1"
 }
 
 # --- Counting
