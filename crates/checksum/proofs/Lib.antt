@@ -1,3 +1,3 @@
-mod Turns
 pub mod Laws
 mod Pairs
+mod Turns

@@ -24,15 +24,15 @@ fn words_onto(carried: u16, part: &[u8]) -> u16
     ensures { result ≡ sum_onto carried part.now }
 {
     let mut sum = carried;
-    let mut at = 0;
-    while 2 <= part.len() - at {
-        sum = with_word(sum, word(part[at], part[at + 1]));
-        at += 2;
+    let mut left = part;
+    while let [high, low, rest @ ..] = left {
+        sum = with_word(sum, word(*high, *low));
+        left = rest;
     }
-    if at < part.len() {
-        sum = with_word(sum, word(part[at], 0));
+    match left {
+        [] => sum,
+        [last, ..] => with_word(sum, word(*last, 0)),
     }
-    sum
 }
 
 // What is carried out of 32 bits is brought round, too: 65,536 times 65,536 is 1 more than a multiple of 65,535.
@@ -59,12 +59,12 @@ pub fn sum_onto(carried: u16, part: &[u8]) -> u16
     ensures { result ≡ sum_onto carried part.now }
 {
     let mut sum = carried as u64;
-    let mut at = 0;
-    while 4 <= part.len() - at {
-        sum = with_pair(sum, numbers::read_u32(part, at));
-        at += 4;
+    let mut left = part;
+    while let [first, second, third, fourth, rest @ ..] = left {
+        sum = with_pair(sum, u32::from_be_bytes([*first, *second, *third, *fourth]));
+        left = rest;
     }
-    words_onto(in_16_bits(sum), &part[at..])
+    words_onto(in_16_bits(sum), left)
 }
 
 pub fn complement(sum: u16) -> u16

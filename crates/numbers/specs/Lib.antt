@@ -1,4 +1,3 @@
 pub mod BigEndian
-pub mod Swapped
 pub mod Fronts
 pub mod Promises

@@ -1,12 +1,12 @@
 -- `checksum::words_onto` meets its contract. The invariant: the words that are left, summed onto the sum so far, come to the whole sum.
 -- Assumes nothing.
-use Prim.Native.Nat.{◌-◌}
+use mathlib.Core.Path.{◌≡◌}
 use lib.ListN.{length}
-use Rattle.checksum.proofs.Turns.{Summed}
+use Rattle.checksum.specs.Sum.{sum_onto}
 use Rattle.checksum.proofs.words_onto.Given as goal
 
-abbrev pub invariant-loop-at : goal.invariant-loop-at
-invariant-loop-at l = Summed l.carried l.part l.sum l.at
+abbrev pub invariant-loop-left : goal.invariant-loop-left
+invariant-loop-left l = sum_onto l.sum l.left ≡ sum_onto l.carried l.part
 
-abbrev pub decreases-loop-at : goal.decreases-loop-at
-decreases-loop-at l = length l.part - l.at
+abbrev pub decreases-loop-left : goal.decreases-loop-left
+decreases-loop-left l = length l.left
