@@ -4,3 +4,4 @@ pub mod Bits
 pub mod Values
 pub mod Votes
 pub mod Places
+pub mod Answer

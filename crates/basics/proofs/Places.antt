@@ -2,10 +2,8 @@
 -- Assumes nothing.
 use Rattle.std.proofs.Common.{◌≡◌, ℕ, ◌<◌, Bool, true, false, ltb, sym, refl, ◌∙◌, arith, ltb-true, lt-ltb}
 use Rattle.basics.specs.declared.Instance.{Instance}
-use Rattle.basics.specs.declared.Place.{Place}
-use Rattle.basics.specs.declared.Place.TheVariants.{At, Nowhere}
 use Rattle.basics.specs.Ladder.{need◌or◌then◌}
-use Rattle.basics.specs.Places.{placed}
+use Rattle.basics.specs.Places.{Place, At, Nowhere, placed}
 use Rattle.basics.proofs.Ladder.{need-elim}
 
 -- the refusal of a message that has no place is such a number

@@ -2,7 +2,9 @@ pub mod Ladder
 pub mod Rounds
 pub mod Values
 pub mod Votes
+pub mod Refusal
 pub mod Places
 pub mod Verdict
+pub mod Answer
 pub mod Outcome
 pub mod Promises

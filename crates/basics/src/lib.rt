@@ -5,45 +5,83 @@ ghost use Rattle.std.specs.Prelude.{◌≡◌};
 ghost use Rattle.basics.specs.Rounds.{is_none, owner_of, owned_or_0, owned_not_0, rank, at_most, same_round};
 ghost use Rattle.basics.specs.Values.{is_null, same_value};
 ghost use Rattle.basics.specs.Votes.{is_vote_up_to};
-ghost use Rattle.basics.specs.Places.{placed, nowhere_of};
+ghost use Rattle.basics.specs.Places.{placed, place_of};
 ghost use Rattle.basics.specs.Verdict.{verdict_number};
+ghost use Rattle.basics.specs.Refusal.{refusal_number};
+ghost use Rattle.basics.specs.Answer.{answer_number};
 
 #[repr(C)]
-#[derive(Clone, Copy)]
+#[derive(Clone, Copy, PartialEq, Eq)]
 pub struct Instance(pub u32);
 
-#[derive(Clone, Copy)]
+#[derive(Clone, Copy, PartialEq, Eq)]
 pub struct Round(pub u32);
 
 // Sixteen bytes, as two big-endian halves.
-#[derive(Clone, Copy)]
+#[derive(Clone, Copy, PartialEq, Eq)]
 pub struct Value {
     pub high: u64,
     pub low: u64,
 }
 
-// Where a message's cell stands, or the refusal.
-#[derive(Clone, Copy)]
-pub enum Place {
-    At(usize),
-    Nowhere(u32),
+// What a call says to do. `Done` is for the calls that send and count nothing, and the last two for those that have nothing to tell.
+#[derive(Clone, Copy, PartialEq, Eq)]
+pub enum Verdict {
+    ToAcceptors = 101,
+    ToLeader = 102,
+    ToLearners = 103,
+    Hold = 104,
+    Decided = 105,
+    Done = 106,
+    NotYet = 107,
+    NoHole = 108,
 }
 
-// What a call says to do. `Done` is for the calls that send and count nothing, and the last two for those that have nothing to tell.
-#[derive(Clone, Copy)]
-pub enum Verdict {
-    ToAcceptors,
-    ToLeader,
-    ToLearners,
-    Hold,
-    Decided,
-    Done,
-    NotYet,
-    NoHole,
+// Why a call refuses, in the paper's numbers: those from 21 on are of frames, those from 30 on of the ledger.
+#[derive(Clone, Copy, PartialEq, Eq)]
+pub enum Refusal {
+    WrongLength = 1,
+    WrongMark = 2,
+    WrongVersion = 3,
+    UnknownType = 4,
+    BrokenField = 5,
+    WrongKind = 6,
+    NotAllowed = 7,
+    InstanceBeyond = 8,
+    SenderBeyond = 9,
+    RoundBelow = 10,
+    NotAsked = 11,
+    NoInstanceLeft = 12,
+    OtherValue = 13,
+    AlreadyDecided = 14,
+    AlreadyCounted = 15,
+    NoRoundLeft = 16,
+    ImpossibleCell = 17,
+    WrongFrameLength = 21,
+    WrongFrameHeader = 22,
+    WrongIpv4Checksum = 23,
+    WrongUdpHeader = 24,
+    WrongUdpChecksum = 25,
+    UnsoundLedger = 30,
+    MalformedEntry = 31,
+    PassExists = 32,
+    LedgerFull = 33,
+    UnknownPass = 34,
+    DayPast = 35,
+    ScanNotNewer = 36,
+    NoRideLeft = 37,
 }
 
 // The round number that marks "none".
 pub const NONE: u32 = 4294967295;
+
+impl Round {
+    pub const NONE: Round = Round(NONE);
+}
+
+impl Value {
+    pub const NULL: Value = Value { high: 0, low: 0 };
+}
 
 // The owners' numbers are 0 to 3, and this is the number of nobody.
 pub const NOBODY: u16 = 4;
@@ -101,19 +139,19 @@ pub fn at_most(a: Round, b: Round) -> bool
 pub fn same_round(a: Round, b: Round) -> bool
     ensures { result ≡ same_round a b }
 {
-    a.0 == b.0
+    a == b
 }
 
 pub fn is_null(value: Value) -> bool
     ensures { result ≡ is_null value }
 {
-    (value.high == 0) & (value.low == 0)
+    value == Value::NULL
 }
 
 pub fn same_value(v: Value, w: Value) -> bool
     ensures { result ≡ same_value v w }
 {
-    (v.high == w.high) & (v.low == w.low)
+    v == w
 }
 
 // A vote round none is looked at first, so that a cell that never voted takes one branch.
@@ -127,38 +165,38 @@ pub fn is_vote_up_to(round: Round, vote_round: Round, value: Value) -> bool
 }
 
 // A cell is chosen by an instance alone.
-pub fn place_of(instances: u32, instance: Instance) -> Place
-    ensures { result ≡ placed instances instance }
+pub fn place_of(instances: u32, instance: Instance) -> Result<usize, Refusal>
+    ensures { place_of result ≡ placed instances instance }
 {
     let number = instance.0;
     if number < instances {
-        return Place::At(number as usize);
+        return Ok(number as usize);
     }
-    Place::Nowhere(8)
-}
-
-// The refusal's number, or 0, as `refusal` of a reading.
-pub fn nowhere(place: Place) -> u32
-    ensures { result ≡ nowhere_of place }
-{
-    match place {
-        Place::At(_) => 0,
-        Place::Nowhere(number) => number,
-    }
+    Err(Refusal::InstanceBeyond)
 }
 
 // Verdicts as numbers lie above every refusal.
 pub fn verdict_number(verdict: Verdict) -> u32
     ensures { result ≡ verdict_number verdict }
 {
-    match verdict {
-        Verdict::ToAcceptors => 101,
-        Verdict::ToLeader => 102,
-        Verdict::ToLearners => 103,
-        Verdict::Hold => 104,
-        Verdict::Decided => 105,
-        Verdict::Done => 106,
-        Verdict::NotYet => 107,
-        Verdict::NoHole => 108,
+    verdict as u32
+}
+
+pub fn refusal_number(refusal: Refusal) -> u32
+    ensures { result ≡ refusal_number refusal }
+{
+    refusal as u32
+}
+
+// What a call comes to.
+pub type Answer = Result<Verdict, Refusal>;
+
+// What C is answered: the verdict's number, or the refusal's.
+pub fn answer_number(answer: Answer) -> u32
+    ensures { result ≡ answer_number answer }
+{
+    match answer {
+        Ok(verdict) => verdict_number(verdict),
+        Err(refusal) => refusal_number(refusal),
     }
 }

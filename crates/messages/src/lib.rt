@@ -152,42 +152,39 @@ pub fn keeps_table(f: Fields) -> bool
 pub fn message_of(f: Fields) -> Message
     ensures { result ≡ message_of f }
 {
-    let kind = f.kind;
-    let switch = f.switch;
-    let instance = f.instance;
-    let round = f.round;
-    let vote_round = f.vote_round;
-    let value = f.value;
-    if kind == 0 {
-        return Message::Request { switch, value };
-    }
-    if kind == 1 {
-        return Message::Prepare { instance, round };
-    }
-    if kind == 2 {
-        return Message::Promise {
+    let Fields {
+        kind,
+        switch,
+        instance,
+        round,
+        vote_round,
+        value,
+    } = f;
+    match kind {
+        0 => Message::Request { switch, value },
+        1 => Message::Prepare { instance, round },
+        2 => Message::Promise {
             sender: switch,
             instance,
             round,
             vote_round,
             value,
-        };
-    }
-    if kind == 3 {
-        return Message::Propose {
+        },
+        3 => Message::Propose {
             instance,
             round,
             value,
-        };
-    }
-    Message::Vote {
-        sender: switch,
-        instance,
-        round,
-        value,
+        },
+        _ => Message::Vote {
+            sender: switch,
+            instance,
+            round,
+            value,
+        },
     }
 }
 
+#[inline(always)]
 pub fn fields_of(message: Message) -> Fields
     ensures { result ≡ fields_of message }
 {
@@ -197,7 +194,7 @@ pub fn fields_of(message: Message) -> Fields
             switch,
             instance: Instance(0),
             round: Round(0),
-            vote_round: Round(basics::NONE),
+            vote_round: Round::NONE,
             value,
         },
         Message::Prepare { instance, round } => Fields {
@@ -205,8 +202,8 @@ pub fn fields_of(message: Message) -> Fields
             switch: basics::owner(round),
             instance,
             round,
-            vote_round: Round(basics::NONE),
-            value: Value { high: 0, low: 0 },
+            vote_round: Round::NONE,
+            value: Value::NULL,
         },
         Message::Promise {
             sender,
@@ -231,7 +228,7 @@ pub fn fields_of(message: Message) -> Fields
             switch: basics::owner(round),
             instance,
             round,
-            vote_round: Round(basics::NONE),
+            vote_round: Round::NONE,
             value,
         },
         Message::Vote {

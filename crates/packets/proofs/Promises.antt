@@ -17,9 +17,7 @@ use Rattle.messages.specs.declared.Fields.{Fields}
 use Rattle.messages.specs.declared.Message.{Message}
 use Rattle.messages.specs.Message.{fields_of, message_of}
 use Rattle.messages.specs.Table.{keeps_table}
-use Rattle.wire.specs.declared.Reading.{Reading}
-use Rattle.wire.specs.declared.Reading.TheVariants.{Read, Refused}
-use Rattle.wire.specs.Packet.{packet_length, fields_in, read_packet, Kept, packet_with, packet_of}
+use Rattle.wire.specs.Packet.{Reading, Read, Refused, packet_length, fields_in, read_packet, Kept, packet_with, packet_of}
 use Rattle.wire.specs.Promises.{InRange}
 use Rattle.wire.proofs.RoundTrip.{fields-of-message, kept-kind, packet-reads, read_kept, read-fields, read-packet-of}
 use Rattle.wire.proofs.Laws.{RefusedBy, reader-refuses, read-writable}

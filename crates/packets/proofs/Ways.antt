@@ -12,9 +12,7 @@ use Rattle.basics.specs.Verdict.{verdict_number}
 use Rattle.messages.specs.declared.Fields.{Fields}
 use Rattle.messages.specs.declared.Message.{Message}
 use Rattle.messages.specs.Message.{fields_of}
-use Rattle.wire.specs.declared.Reading.{Reading}
-use Rattle.wire.specs.declared.Reading.TheVariants.{Read, Refused}
-use Rattle.wire.specs.Packet.{packet_length, read_packet, write_fields}
+use Rattle.wire.specs.Packet.{Reading, Read, Refused, packet_length, read_packet, write_fields}
 use Rattle.packets.specs.Packets.{last_switch, packet_write, fields_read, packet_read}
 
 -- ---- writing

@@ -10,9 +10,7 @@ use Rattle.basics.specs.Verdict.{verdict_number}
 use Rattle.messages.specs.declared.Fields.{Fields}
 use Rattle.messages.specs.Message.{fields, fields_of}
 use Rattle.messages.specs.Table.{keeps_table}
-use Rattle.wire.specs.declared.Reading.{Reading}
-use Rattle.wire.specs.declared.Reading.TheVariants.{Read, Refused}
-use Rattle.wire.specs.Packet.{packet_length, read_packet, packet_with}
+use Rattle.wire.specs.Packet.{Reading, Read, Refused, packet_length, read_packet, packet_with}
 
 -- The fields as a host gives and gets them, a number each.
 abbrev pub numbered : (kind switch instance round vote_round high low : ℕ) → Fields

@@ -5,9 +5,8 @@ ghost use Rattle.std.specs.Prelude.{◌≡◌};
 ghost use Rattle.basics.specs.Outcome.{outcome};
 ghost use Rattle.packets.specs.Packets.{numbered, packet_write, packet_read};
 
-use basics::{Instance, Round, Value, Verdict};
+use basics::{Instance, Refusal, Round, Value, Verdict};
 use messages::Fields;
-use wire::Reading;
 
 const LAST_KIND: u32 = 4;
 
@@ -29,13 +28,13 @@ pub extern "C" fn myrthakel_packet_write(
         outcome result packet.new ≡ packet_write given packet.old }
 {
     if packet.len() != wire::PACKET_LENGTH {
-        return 1;
+        return Refusal::WrongLength as u32;
     }
     if kind > LAST_KIND {
-        return 4;
+        return Refusal::UnknownType as u32;
     }
     if switch_number > LAST_SWITCH {
-        return 5;
+        return Refusal::BrokenField as u32;
     }
     let f = Fields {
         kind: kind as u8,
@@ -48,7 +47,7 @@ pub extern "C" fn myrthakel_packet_write(
             low: value_low,
         },
     };
-    wire::write_fields(packet, f)
+    basics::answer_number(wire::write_fields(packet, f))
 }
 
 // The fields go out by the numbers lent, which stay as they were unless the packet was read.
@@ -70,7 +69,7 @@ pub extern "C" fn myrthakel_packet_read(
         outcome result after ≡ packet_read packet.now before }
 {
     match wire::read_packet(packet) {
-        Reading::Read(message) => {
+        Ok(message) => {
             let f = messages::fields_of(message);
             *kind = f.kind as u32;
             *switch_number = f.switch as u32;
@@ -79,8 +78,8 @@ pub extern "C" fn myrthakel_packet_read(
             *vote_round = f.vote_round.0;
             *value_high = f.value.high;
             *value_low = f.value.low;
-            basics::verdict_number(Verdict::Done)
+            Verdict::Done as u32
         }
-        Reading::Refused(number) => number,
+        Err(refusal) => basics::refusal_number(refusal),
     }
 }

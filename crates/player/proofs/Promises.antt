@@ -5,7 +5,7 @@ use mathlib.Core.Path.{◌≡◌, refl, sym, ap, ◌∙◌, subst}
 use mathlib.Core.Bool.{Bool, true, false, false≢true}
 use mathlib.Core.List.{List}
 use native.Mathlib.Decide.{ℕ_discrete}
-use Rattle.basics.specs.declared.Place.TheVariants.{At}
+use Rattle.basics.specs.Places.{At}
 use Rattle.basics.specs.declared.Verdict.{Verdict}
 use Rattle.basics.specs.declared.Verdict.TheVariants.{ToAcceptors, ToLeader, ToLearners, Hold, Decided, Done, NotYet, NoHole}
 use Rattle.basics.specs.Verdict.{verdict_number, is_verdict, says_send}
@@ -13,8 +13,7 @@ use Rattle.basics.proofs.Places.{PlacedBy}
 use Rattle.messages.specs.declared.Message.{Message}
 use Rattle.messages.specs.Table.{keeps_table}
 use Rattle.messages.specs.Message.{fields_of}
-use Rattle.wire.specs.declared.Reading.TheVariants.{Read}
-use Rattle.wire.specs.Packet.{Kept, read_packet, packet_of}
+use Rattle.wire.specs.Packet.{Read, Kept, read_packet, packet_of}
 use Rattle.wire.proofs.Laws.{Writable, RefusedBy, read-message, read-writable, written-reads}
 use Rattle.wire.proofs.RoundTrip.{read_kept}
 use Rattle.player.specs.Step.{unchanged, Ruling, refused, sends, counts, Player, ruled, step}

@@ -2,22 +2,17 @@
 -- Assumes nothing.
 use Prim.Native.Nat.{ℕ}
 use mathlib.Core.Path.{◌≡◌, refl, sym, ap, ◌∙◌}
-use mathlib.Core.Bool.{Bool, true, false, not}
+use mathlib.Core.Bool.{Bool, true, false}
 use mathlib.Core.List.{List}
 use lib.ListN.{length}
-use borrow.Author.Tests.{not-true, not-false}
 use Rattle.basics.specs.Outcome.{Outcome, outcome, Lent, lent}
-use Rattle.basics.specs.declared.Place.{Place}
-use Rattle.basics.specs.declared.Place.TheVariants.{At, Nowhere}
 use Rattle.basics.specs.declared.Verdict.{Verdict}
 use Rattle.basics.specs.Verdict.{verdict_number}
-use Rattle.basics.specs.Places.{nowhere_of}
+use Rattle.basics.specs.Places.{Place, At, Nowhere}
 use Rattle.basics.specs.Ladder.{need◌or◌then◌}
 use Rattle.basics.proofs.Ladder.{need-elim, need-passed, need-failed}
 use Rattle.messages.specs.declared.Message.{Message}
-use Rattle.wire.specs.declared.Reading.{Reading}
-use Rattle.wire.specs.declared.Reading.TheVariants.{Read, Refused}
-use Rattle.wire.specs.Packet.{packet_length, read_packet, refusal_of, with_message}
+use Rattle.wire.specs.Packet.{Reading, Read, Refused, packet_length, read_packet, with_message}
 use Rattle.wire.proofs.Laws.{put-over}
 use Rattle.player.specs.Step.{Ruling, counts, sends, unchanged, Player, after_reading, after_placing, ruled, rule_at, act, step}
 
@@ -28,26 +23,25 @@ module _ {Tables Cell : Type 0} (player : Player Tables Cell) (packet : List ℕ
   -- ---- the ways out of a step
 
   module _ (allowed : Bool) (allowed-so : allowed ≡ player.allowed tables) where
-    pub refused-7 : not allowed ≡ true → unchanged packet tables 7 ≡ step player packet tables
+    pub refused-7 : allowed ≡ false → unchanged packet tables 7 ≡ step player packet tables
     unfolding step
-    refused-7 no_way = sym (need-failed _ _ (sym allowed-so ∙ not-true allowed no_way))
+    refused-7 no_way = sym (need-failed _ _ (sym allowed-so ∙ no_way))
 
-    module _ (fine : not allowed ≡ false) (reading : Reading) (reading-so : reading ≡ read_packet packet) where
+    module _ (fine : allowed ≡ true) (reading : Reading) (reading-so : reading ≡ read_packet packet) where
       past-7 : after_reading packet tables reading (act player packet tables) ≡ step player packet tables
       unfolding step
       past-7 =
           ap (λ r. after_reading packet tables r (act player packet tables)) reading-so
-          ∙ sym (need-passed (unchanged packet tables 7) _ (sym allowed-so ∙ not-false allowed fine))
+          ∙ sym (need-passed (unchanged packet tables 7) _ (sym allowed-so ∙ fine))
 
-      pub malformed : (number answer : ℕ) → reading ≡ Refused number → answer ≡ refusal_of reading → unchanged packet tables answer ≡ step player packet tables
+    module _ (fine : allowed ≡ true) where
+      pub malformed : (number : ℕ) → Refused number ≡ read_packet packet → unchanged packet tables number ≡ step player packet tables
       unfolding after_reading
-      malformed number answer refuses answer-so =
-          ap (unchanged packet tables) (answer-so ∙ ap refusal_of refuses)
-          ∙ sym (ap (λ r. after_reading packet tables r (act player packet tables)) refuses) ∙ past-7
+      malformed number refuses = past-7 fine (Refused number) refuses
 
-      pub acted : (m : Message) (o : Outcome (Lent Tables)) → reading ≡ Read m → o ≡ act player packet tables m → o ≡ step player packet tables
+      pub acted : (m : Message) → Read m ≡ read_packet packet → act player packet tables m ≡ step player packet tables
       unfolding after_reading
-      acted m o reads o-so = o-so ∙ sym (ap (λ r. after_reading packet tables r (act player packet tables)) reads) ∙ past-7
+      acted m reads = past-7 fine (Read m) reads
 
   -- the step where it obeys, and where a rule refuses, as an equation
   pub step-rules : (m : Message) (index : ℕ) (r : Ruling Cell) → player.allowed tables ≡ true → read_packet packet ≡ Read m → player.place m ≡ At index
@@ -76,29 +70,25 @@ module _ {Tables Cell : Type 0} (player : Player Tables Cell) (packet : List ℕ
 -- ---- a rule at a place, as the code goes through it
 
 module _ {Tables Cell : Type 0} (cell_at : Tables → (index : ℕ) → Cell) (with_cell : Tables → (index : ℕ) → Cell → Tables) (packet : List ℕ) (tables : Tables)
-    (rule : Cell → Ruling Cell) (asked place : Place) (place-so : place ≡ asked) where
-  pub not-placed : (number answer : ℕ) → place ≡ Nowhere number → answer ≡ nowhere_of place
-      → unchanged packet tables answer ≡ rule_at cell_at with_cell packet tables asked rule
+    (rule : Cell → Ruling Cell) (asked : Place) where
+  pub not-placed : (number : ℕ) → Nowhere number ≡ asked → unchanged packet tables number ≡ rule_at cell_at with_cell packet tables asked rule
   unfolding rule_at after_placing
-  not-placed number answer no_place answer-so =
-      ap (unchanged packet tables) (answer-so ∙ ap nowhere_of no_place)
-      ∙ ap (λ p. rule_at cell_at with_cell packet tables p rule) (sym no_place ∙ place-so)
+  not-placed number nowhere = ap (λ p. rule_at cell_at with_cell packet tables p rule) nowhere
 
-  pub placed_at : (index : ℕ) (cell : Cell) (r : Ruling Cell) (o : Outcome (Lent Tables)) → place ≡ At index → cell ≡ cell_at tables index → r ≡ rule cell
-      → o ≡ ruled packet tables (with_cell tables index) r → o ≡ rule_at cell_at with_cell packet tables asked rule
+  pub placed_at : (index : ℕ) (cell : Cell) (r : Ruling Cell) → At index ≡ asked → cell ≡ cell_at tables index → r ≡ rule cell
+      → ruled packet tables (with_cell tables index) r ≡ rule_at cell_at with_cell packet tables asked rule
   unfolding rule_at after_placing
-  placed_at index cell r o stands cell-so r-so o-so =
-      o-so ∙ ap (ruled packet tables (with_cell tables index)) (r-so ∙ ap rule cell-so)
-      ∙ ap (λ p. rule_at cell_at with_cell packet tables p rule) (sym stands ∙ place-so)
+  placed_at index cell r stands cell-so r-so =
+      ap (ruled packet tables (with_cell tables index)) (r-so ∙ ap rule cell-so) ∙ ap (λ p. rule_at cell_at with_cell packet tables p rule) stands
 
 -- ---- rulings, as they are stored and sent
 
-module _ {Tables Cell : Type 0} (packet : List ℕ) (tables next : Tables) (store : Cell → Tables) (answer : ℕ) (verdict : Verdict) (c : Cell)
-    (answer-so : answer ≡ verdict_number verdict) (next-so : next ≡ store c) where
-  pub sent : (left : List ℕ) (m : Message) → length packet ≡ packet_length → left ≡ with_message packet m → outcome answer (lent left next) ≡ ruled packet tables store (sends verdict m c)
+module _ {Tables Cell : Type 0} (packet : List ℕ) (tables next : Tables) (store : Cell → Tables) (verdict : Verdict) (c : Cell) (next-so : next ≡ store c) where
+  pub sent : (left : List ℕ) (m : Message) → length packet ≡ packet_length → left ≡ with_message packet m
+      → outcome (verdict_number verdict) (lent left next) ≡ ruled packet tables store (sends verdict m c)
   unfolding ruled
-  sent left m long left_so = rw (answer-so, left_so, put-over packet m long, next-so)
+  sent left m long left_so = rw (left_so, put-over packet m long, next-so)
 
-  pub counted : outcome answer (lent packet next) ≡ ruled packet tables store (counts verdict c)
+  pub counted : outcome (verdict_number verdict) (lent packet next) ≡ ruled packet tables store (counts verdict c)
   unfolding ruled
-  counted = rw (answer-so, next-so)
+  counted = rw next-so

@@ -2,12 +2,11 @@
 -- Assumes nothing.
 use Rattle.std.specs.Prelude.{ℕ, ◌≡◌, Bool, true, false, List, ◌∷◌}
 use Rattle.numbers.specs.BigEndian.{Bytes}
-use Rattle.basics.specs.declared.Place.TheVariants.{At}
+use Rattle.basics.specs.Places.{At}
 use Rattle.basics.specs.Verdict.{is_verdict, says_send}
 use Rattle.basics.specs.Outcome.{Outcome, outcome, Lent, lent}
 use Rattle.messages.specs.declared.Message.{Message}
-use Rattle.wire.specs.declared.Reading.TheVariants.{Read}
-use Rattle.wire.specs.Packet.{read_packet, Kept}
+use Rattle.wire.specs.Packet.{Read, read_packet, Kept}
 use Rattle.player.specs.Step.{unchanged, Player}
 
 -- A call on a packet, or on a buffer for one, and on lent tables.

@@ -2,16 +2,13 @@
 -- with 9 and 17.
 -- Assumes nothing.
 use Rattle.std.specs.Prelude.{ℕ, Bool, List}
-use Rattle.basics.specs.declared.Place.{Place}
-use Rattle.basics.specs.declared.Place.TheVariants.{At, Nowhere}
+use Rattle.basics.specs.Places.{Place, At, Nowhere}
 use Rattle.basics.specs.declared.Verdict.{Verdict}
 use Rattle.basics.specs.Ladder.{need◌or◌then◌}
 use Rattle.basics.specs.Verdict.{verdict_number}
 use Rattle.basics.specs.Outcome.{Outcome, outcome, Lent, lent}
 use Rattle.messages.specs.declared.Message.{Message}
-use Rattle.wire.specs.declared.Reading.{Reading}
-use Rattle.wire.specs.declared.Reading.TheVariants.{Read, Refused}
-use Rattle.wire.specs.Packet.{read_packet, packet_of}
+use Rattle.wire.specs.Packet.{Reading, Read, Refused, read_packet, packet_of}
 
 -- A refusal sends nothing and changes nothing.
 abbrev pub unchanged : {Tables : Type 0} → List ℕ → Tables → (number : ℕ) → Outcome (Lent Tables)

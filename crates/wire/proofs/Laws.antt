@@ -24,9 +24,7 @@ use Rattle.messages.specs.declared.Message.{Message}
 use Rattle.messages.specs.declared.Message.TheVariants.{Request, Prepare, Promise, Propose, Vote}
 use Rattle.messages.specs.Table.{request_row, prepare_row, promise_row, propose_row, vote_row, table_row, keeps_table}
 use Rattle.messages.specs.Message.{fields_of}
-use Rattle.wire.specs.declared.Reading.{Reading}
-use Rattle.wire.specs.declared.Reading.TheVariants.{Read, Refused}
-use Rattle.wire.specs.Packet.{packet_length, version, fields_in, read_packet, packet_with, packet_of, with_message}
+use Rattle.wire.specs.Packet.{Reading, Read, Refused, packet_length, version, fields_in, read_packet, packet_with, packet_of, with_message}
 use Rattle.wire.specs.Promises.{InRange, MalformedNumbers}
 use Rattle.wire.proofs.RoundTrip.{joined, columns, read_kept, read-fields, packet-reads}
 

@@ -12,8 +12,7 @@ use Rattle.messages.specs.declared.Fields.{Fields}
 use Rattle.messages.specs.declared.Message.{Message}
 use Rattle.messages.specs.Table.{keeps_table}
 use Rattle.messages.specs.Message.{message_of}
-use Rattle.wire.specs.declared.Reading.TheVariants.{Read, Refused}
-use Rattle.wire.specs.Packet.{packet_length, version, marked, fields_in, read_packet}
+use Rattle.wire.specs.Packet.{Read, Refused, packet_length, version, marked, fields_in, read_packet}
 
 module _ (p : List ℕ) where
   pub refused-1 : (length p ≡ packet_length → ⊥) → Refused 1 ≡ read_packet p

@@ -1,9 +1,11 @@
 -- The packet: 36 bytes, big-endian. Bytes 0-2 mark "RDE"; 3 type; 4-5 version, 1; 6-7 switch number; 8-11 instance; 12-15 round; 16-19 vote round;
 -- 20-35 value.
 -- Assumes nothing.
-use Rattle.std.specs.Prelude.{ℕ, ◌≡◌, List, [], ◌∷◌, ◌++◌, Bool, true, ◌&&◌, eqb, leb, length, get_or}
+use Rattle.std.specs.Prelude.{ℕ, Result, Ok, Err, ◌≡◌, List, [], ◌∷◌, ◌++◌, Bool, true, ◌&&◌, eqb, leb, length, get_or}
 use Rattle.numbers.specs.BigEndian.{number_at, to_bytes}
 use Rattle.basics.specs.Ladder.{when◌then◌else◌, need◌or◌then◌}
+use Rattle.basics.specs.declared.Refusal.{Refusal}
+use Rattle.basics.specs.Refusal.{refusal_number}
 use Rattle.basics.specs.Rounds.{the_instance, the_round}
 use Rattle.basics.specs.declared.Verdict.TheVariants.{Done}
 use Rattle.basics.specs.Verdict.{verdict_number}
@@ -12,8 +14,6 @@ use Rattle.messages.specs.declared.Fields.{Fields}
 use Rattle.messages.specs.declared.Message.{Message}
 use Rattle.messages.specs.Table.{keeps_table}
 use Rattle.messages.specs.Message.{fields, message_of, fields_of}
-use Rattle.wire.specs.declared.Reading.{Reading}
-use Rattle.wire.specs.declared.Reading.TheVariants.{Read, Refused}
 
 abbrev pub packet_length : ℕ
 packet_length = 36
@@ -32,6 +32,10 @@ fields_in p =
     (record { high = number_at p 20 8; low = number_at p 28 8 })
 
 -- A packet is first read into a message or a refusal.
+pub data Reading : Type 0 where
+  Read : Message → Reading
+  Refused : (number : ℕ) → Reading
+
 unfoldable pub read_packet : List ℕ → Reading
 read_packet p =
     need eqb (length p) packet_length or Refused 1 then
@@ -45,6 +49,11 @@ read_packet p =
 abbrev pub refusal_of : Reading → ℕ
 refusal_of (Read m) = 0
 refusal_of (Refused number) = number
+
+-- What each answer of the code comes to.
+abbrev pub reading_of : Result Message Refusal → Reading
+reading_of (Ok m) = Read m
+reading_of (Err refusal) = Refused (refusal_number refusal)
 
 -- Malformed means refused by 1 to 5, that is, by the reader.
 pub record Malformed (p : List ℕ) : Type 0 where

@@ -8,8 +8,7 @@ use Rattle.basics.specs.Verdict.{verdict_number}
 use Rattle.messages.specs.declared.Fields.{Fields}
 use Rattle.messages.specs.declared.Message.{Message}
 use Rattle.messages.specs.Message.{fields_of}
-use Rattle.wire.specs.declared.Reading.TheVariants.{Read}
-use Rattle.wire.specs.Packet.{packet_length, read_packet, Malformed, Kept, write_packet}
+use Rattle.wire.specs.Packet.{Read, packet_length, read_packet, Malformed, Kept, write_packet}
 
 -- The numbers fit where they stand.
 pub record InRange (f : Fields) : Type 0 where

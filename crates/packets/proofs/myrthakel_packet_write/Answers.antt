@@ -15,4 +15,5 @@ returns-then-switch_number-gt-LAST_SWITCH c = write-5 _ _ c.if-packet-ne-PACKET_
 
 pub returns : goal.returns
 returns c =
-    c.write_fields.ensures ∙ written _ _ c.if-packet-ne-PACKET_LENGTH.false c.if-kind-gt-LAST_KIND.false c.if-switch_number-gt-LAST_SWITCH.false
+    rw c.answer_number.ensures
+    (c.write_fields.ensures ∙ written _ _ c.if-packet-ne-PACKET_LENGTH.false c.if-kind-gt-LAST_KIND.false c.if-switch_number-gt-LAST_SWITCH.false)

@@ -6,4 +6,4 @@ use Rattle.wire.proofs.is_marked.Goals as goal
 
 pub returns : goal.returns
 returns c =
-    rw c.read_u32.ensures (marked-number c.args.packet.now (λ i. omega (arith, c.shared_slice_known-1.given i)) c.requires)
+    rw c.read.ensures (marked-number c.args.packet.now (λ i. omega (arith, c.shared_slice_known-1.given i)) c.requires)

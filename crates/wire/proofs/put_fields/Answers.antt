@@ -5,5 +5,5 @@ use Rattle.wire.proofs.put_fields.Goals as goal
 
 pub returns : goal.returns
 returns c =
-    rw (c.write_u64-2.ensures, c.write_u64.ensures, c.write_u32-3.ensures, c.write_u32-2.ensures, c.write_u32.ensures, c.write_u16-2.ensures, c.write_u16.ensures, c.put_mark.ensures)
+    rw (c.write-7.ensures, c.write-6.ensures, c.write-5.ensures, c.write-4.ensures, c.write-3.ensures, c.write-2.ensures, c.write.ensures, c.put_mark.ensures)
     (stored c.args.packet.now c.args.f c.requires)

@@ -7,4 +7,4 @@ use Rattle.wire.proofs.put_mark.Goals as goal
 
 pub returns : goal.returns
 returns c =
-    c.write_u32.ensures ∙ mark-stored c.args.packet.now c.args.kind (omega arith) c.requires
+    c.write.ensures ∙ mark-stored c.args.packet.now c.args.kind (omega arith) c.requires

@@ -9,22 +9,22 @@ returns-then-packet-ne-PACKET_LENGTH c = refused-1 _ c.if-packet-ne-PACKET_LENGT
 pub returns-then-not-is_marked : goal.returns-then-not-is_marked
 returns-then-not-is_marked c = refused-2 _ c.if-packet-ne-PACKET_LENGTH.false _ c.is_marked.ensures c.if-not-is_marked.true
 
-pub returns-then-read_u16-ne-VERSION : goal.returns-then-read_u16-ne-VERSION
-returns-then-read_u16-ne-VERSION c =
-    refused-3 _ c.if-packet-ne-PACKET_LENGTH.false _ c.is_marked.ensures c.if-not-is_marked.false _ c.read_u16.ensures c.if-read_u16-ne-VERSION.true
+pub returns-then-read-ne-VERSION : goal.returns-then-read-ne-VERSION
+returns-then-read-ne-VERSION c =
+    refused-3 _ c.if-packet-ne-PACKET_LENGTH.false _ c.is_marked.ensures c.if-not-is_marked.false _ c.read.ensures c.if-read-ne-VERSION.true
 
 pub returns-then-packet-gt4 : goal.returns-then-packet-gt4
 returns-then-packet-gt4 c =
-    refused-4 _ c.if-packet-ne-PACKET_LENGTH.false _ c.is_marked.ensures c.if-not-is_marked.false _ c.read_u16.ensures
-    c.if-read_u16-ne-VERSION.false c.if-packet-gt4.true
+    refused-4 _ c.if-packet-ne-PACKET_LENGTH.false _ c.is_marked.ensures c.if-not-is_marked.false _ c.read.ensures
+    c.if-read-ne-VERSION.false c.if-packet-gt4.true
 
 pub returns-then-not-keeps_table : goal.returns-then-not-keeps_table
 returns-then-not-keeps_table c =
-    refused-5 _ c.if-packet-ne-PACKET_LENGTH.false _ c.is_marked.ensures c.if-not-is_marked.false _ c.read_u16.ensures
-    c.if-read_u16-ne-VERSION.false c.if-packet-gt4.false _ c.fields_in-f.ensures _ c.keeps_table.ensures c.if-not-keeps_table.true
+    refused-5 _ c.if-packet-ne-PACKET_LENGTH.false _ c.is_marked.ensures c.if-not-is_marked.false _ c.read.ensures
+    c.if-read-ne-VERSION.false c.if-packet-gt4.false _ c.fields_in-f.ensures _ c.keeps_table.ensures c.if-not-keeps_table.true
 
 pub returns : goal.returns
 returns c =
-    read _ c.if-packet-ne-PACKET_LENGTH.false _ c.is_marked.ensures c.if-not-is_marked.false _ c.read_u16.ensures
-    c.if-read_u16-ne-VERSION.false c.if-packet-gt4.false _ c.fields_in-f.ensures _ c.keeps_table.ensures c.if-not-keeps_table.false
+    read _ c.if-packet-ne-PACKET_LENGTH.false _ c.is_marked.ensures c.if-not-is_marked.false _ c.read.ensures
+    c.if-read-ne-VERSION.false c.if-packet-gt4.false _ c.fields_in-f.ensures _ c.keeps_table.ensures c.if-not-keeps_table.false
     _ c.message_of.ensures
