@@ -1,5 +1,4 @@
 pub mod Columns
 pub mod Walks
 pub mod Fresh
-pub mod Ways
 mod Fills

@@ -1,83 +1,81 @@
-// Columns of lent tables: a number for each cell, and for a value two, its high half first. Past its end a column reads as 0 and is not written.
+// Columns of lent tables: an item for each cell, and for a value two, its high half first. Past its end a column is not written, and reads as the caller says;
+// as 0, where it is one of rounds or of values.
 #![tactic(auto)]
 
-ghost use Rattle.std.specs.Prelude.{◌≡◌, length, get_or, set, replicate};
-ghost use Rattle.columns.specs.Columns.{round_at, with_round, byte_at, with_byte, value_at, with_value};
+ghost use Rattle.std.specs.Prelude.{◌≡◌, true, length, get_or, set, replicate};
+ghost use Rattle.std.proofs.Common.{rules};
+ghost use Rattle.columns.specs.Columns.{round_at, with_round, value_at, with_value};
 
 use basics::{Round, Value};
+
+// ---- items
+
+pub fn item_at<T: Copy>(column: &[T], index: usize, past: T) -> T
+    ensures { result ≡ get_or column.now index past }
+{
+    column.get(index).copied().unwrap_or(past)
+}
+
+pub fn put_item<T: Copy>(column: &mut [T], index: usize, item: T)
+    ensures { column.new ≡ set column.old index item }
+{
+    if index < column.len() {
+        column[index] = item;
+    }
+}
+
+// What `==` takes for the same item is the same.
+pub trait Item: Copy + PartialEq {
+    ghost same: { (a b : Self) → Self.eq a b ≡ true → a ≡ b };
+}
+
+impl Item for u8 {
+    ghost same = { Prim.search rules };
+}
+
+impl Item for u32 {
+    ghost same = { Prim.search rules };
+}
+
+impl Item for u64 {
+    ghost same = { Prim.search rules };
+}
+
+// One item in every cell, whatever the column holds. A cell that holds it is not written: of a loop that writes every cell the compiler makes a call of
+// memset, and the archives call nothing.
+pub fn fill<T: Item>(column: &mut [T], item: T)
+    ensures { column.new ≡ replicate (length column.old) item }
+{
+    for place in column.iter_mut() {
+        if *place != item {
+            *place = item;
+        }
+    }
+}
 
 // ---- rounds
 
 pub fn round_at(rounds: &[u32], index: usize) -> Round
     ensures { result ≡ round_at rounds.now index }
 {
-    if index < rounds.len() {
-        return Round(rounds[index]);
-    }
-    Round(0)
+    Round(item_at(rounds, index, 0))
 }
 
 pub fn put_round(rounds: &mut [u32], index: usize, round: Round)
     ensures { rounds.new ≡ with_round rounds.old index round }
 {
-    if index < rounds.len() {
-        rounds[index] = round.0;
-    }
+    put_item(rounds, index, round.0)
 }
 
-// One round in every cell, whatever the column holds. A cell that holds it is not written: of a loop that writes every cell the compiler makes a call of
-// memset, and the archives call nothing.
 pub fn fill_rounds(rounds: &mut [u32], round: Round)
     ensures { rounds.new ≡ replicate (length rounds.old) round.0 }
 {
-    for place in 0..rounds.len() {
-        if rounds[place] != round.0 {
-            rounds[place] = round.0;
-        }
-    }
-}
-
-// ---- sets and phases, a byte each
-
-pub fn byte_at(bytes: &[u8], index: usize) -> u8
-    ensures { result ≡ byte_at bytes.now index }
-{
-    if index < bytes.len() {
-        return bytes[index];
-    }
-    0
-}
-
-pub fn put_byte(bytes: &mut [u8], index: usize, byte: u8)
-    ensures { bytes.new ≡ with_byte bytes.old index byte }
-{
-    if index < bytes.len() {
-        bytes[index] = byte;
-    }
-}
-
-pub fn fill_bytes(bytes: &mut [u8], byte: u8)
-    ensures { bytes.new ≡ replicate (length bytes.old) byte }
-{
-    for place in 0..bytes.len() {
-        if bytes[place] != byte {
-            bytes[place] = byte;
-        }
-    }
+    fill(rounds, round.0)
 }
 
 // ---- values
 
-fn half_at(values: &[u64], place: usize) -> u64
-    ensures { result ≡ get_or values.now place 0 }
-{
-    if place < values.len() {
-        return values[place];
-    }
-    0
-}
-
-// An index past half of the length is not doubled, since that would wrap near the largest number.
+// A value that stands within takes one test. An index past half of the length is not doubled, since that would wrap near the largest number.
 pub fn value_at(values: &[u64], index: usize) -> Value
     ensures { result ≡ value_at values.now index }
 {
@@ -89,19 +87,11 @@ pub fn value_at(values: &[u64], index: usize) -> Value
         };
     }
     if values.len() / 2 < index {
-        return Value { high: 0, low: 0 };
+        return Value::NULL;
     }
     Value {
-        high: half_at(values, 2 * index),
+        high: item_at(values, 2 * index, 0),
         low: 0,
-    }
-}
-
-fn put_half(values: &mut [u64], place: usize, number: u64)
-    ensures { values.new ≡ set values.old place number }
-{
-    if place < values.len() {
-        values[place] = number;
     }
 }
 
@@ -113,20 +103,7 @@ pub fn put_value(values: &mut [u64], index: usize, value: Value)
         let high = 2 * index;
         values[high] = value.high;
         values[high + 1] = value.low;
-        return;
-    }
-    if index <= values.len() / 2 {
-        put_half(values, 2 * index, value.high);
-    }
-}
-
-// One number in every half.
-pub fn fill_halves(values: &mut [u64], number: u64)
-    ensures { values.new ≡ replicate (length values.old) number }
-{
-    for place in 0..values.len() {
-        if values[place] != number {
-            values[place] = number;
-        }
+    } else if index <= values.len() / 2 {
+        put_item(values, 2 * index, value.high);
     }
 }
