@@ -44,6 +44,10 @@ acceptor_allowed s own t = is_allowed s own (length t.rounds) (length t.vote_rou
 abbrev pub fresh_allowed : Settings → Tables → Bool
 fresh_allowed s t = tables_allowed s (length t.rounds) (length t.vote_rounds) (length t.values)
 
+-- Each column filled with its fresh number, as long as it is.
+abbrev pub filled_fresh : Tables → Tables
+filled_fresh t = tables (replicate (length t.rounds) 0) (replicate (length t.vote_rounds) none.0) (replicate (length t.values) 0)
+
 -- The tables as a run begins with them, whatever they held; 7 where they are not allowed.
 unfoldable pub acceptor_fresh : Settings → Tables → Outcome Tables
 acceptor_fresh s t = set_fresh (fresh_allowed s t) t (fresh_tables s.instances)

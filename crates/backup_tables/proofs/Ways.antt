@@ -4,8 +4,7 @@
 use Prim.Native.Nat.{ℕ}
 use mathlib.Core.Path.{◌≡◌, sym, ap, ◌∙◌}
 use mathlib.Core.Bool.{Bool, true, false}
-use mathlib.Core.List.{List}
-use lib.ListN.{length, replicate}
+use lib.ListN.{replicate}
 use Rattle.basics.specs.declared.Verdict.TheVariants.{Done}
 use Rattle.basics.specs.Outcome.{outcome}
 use Rattle.basics.specs.Rounds.{none}
@@ -13,7 +12,7 @@ use Rattle.basics.specs.Verdict.{verdict_number}
 use Rattle.columns.proofs.Fresh.{fresh-refused, fresh-done}
 use Rattle.quorum.specs.declared.Settings.{Settings}
 use Rattle.backup_cell.specs.Cell.{idle}
-use Rattle.backup_tables.specs.Tables.{Tables, tables, fresh_tables, fresh_allowed, backup_fresh}
+use Rattle.backup_tables.specs.Tables.{Tables, fresh_tables, fresh_allowed, filled_fresh, backup_fresh}
 use Rattle.backup_tables.proofs.Laws.{allowed-sizes, same_tables}
 
 -- as many numbers as a column has are as many as it is sized for
@@ -25,14 +24,11 @@ module _ (s : Settings) (t : Tables) (fine : Bool) (fine-so : fine ≡ fresh_all
   unfolding backup_fresh
   refused-7 no_way = fresh-refused t (fresh_tables s.instances) fine-so no_way
 
-  pub filled : fine ≡ true → (answer : ℕ) (rounds phases sets best_vote_rounds best_values own_values : List ℕ) → answer ≡ verdict_number Done
-      → rounds ≡ replicate (length t.rounds) 0 → phases ≡ replicate (length t.phases) idle → sets ≡ replicate (length t.sets) 0
-      → best_vote_rounds ≡ replicate (length t.best_vote_rounds) none.0 → best_values ≡ replicate (length t.best_values) 0 → own_values ≡ replicate (length t.own_values) 0
-      → outcome answer (tables rounds phases sets best_vote_rounds best_values own_values) ≡ backup_fresh s t
+  pub filled : fine ≡ true → (answer : ℕ) (after : Tables) → answer ≡ verdict_number Done → after ≡ filled_fresh t → outcome answer after ≡ backup_fresh s t
   unfolding backup_fresh
-  filled passed answer rounds phases sets best_vote_rounds best_values own_values answer-so rounds-so phases-so sets-so best-rounds-so best-values-so own-values-so =
+  filled passed answer after answer-so after-so =
       let sized = (allowed-sizes s t (sym fine-so ∙ passed)).1 in
       fresh-done t (fresh_tables s.instances) fine-so passed answer-so
-      (same_tables (rounds-so ∙ for-all 0 sized.of_rounds) (phases-so ∙ for-all idle sized.of_phases) (sets-so ∙ for-all 0 sized.of_sets)
-      (best-rounds-so ∙ for-all none.0 sized.of_best_vote_rounds) (best-values-so ∙ for-all 0 sized.of_best_values)
-      (own-values-so ∙ for-all 0 sized.of_own_values))
+      (after-so
+      ∙ same_tables (for-all 0 sized.of_rounds) (for-all idle sized.of_phases) (for-all 0 sized.of_sets) (for-all none.0 sized.of_best_vote_rounds)
+      (for-all 0 sized.of_best_values) (for-all 0 sized.of_own_values))

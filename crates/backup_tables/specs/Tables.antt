@@ -56,6 +56,12 @@ abbrev pub fresh_allowed : Settings → Tables → Bool
 fresh_allowed s t =
     tables_allowed s (length t.rounds) (length t.phases) (length t.sets) (length t.best_vote_rounds) (length t.best_values) (length t.own_values)
 
+-- Each column filled with its fresh number, as long as it is.
+abbrev pub filled_fresh : Tables → Tables
+filled_fresh t =
+    tables (replicate (length t.rounds) 0) (replicate (length t.phases) idle) (replicate (length t.sets) 0) (replicate (length t.best_vote_rounds) none.0)
+    (replicate (length t.best_values) 0) (replicate (length t.own_values) 0)
+
 -- The tables as a run begins with them, whatever they held; 7 where they are not allowed.
 unfoldable pub backup_fresh : Settings → Tables → Outcome Tables
 backup_fresh s t = set_fresh (fresh_allowed s t) t (fresh_tables s.instances)

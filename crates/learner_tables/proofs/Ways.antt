@@ -4,15 +4,12 @@
 use Prim.Native.Nat.{ℕ}
 use mathlib.Core.Path.{◌≡◌, sym, ◌∙◌}
 use mathlib.Core.Bool.{Bool, true, false}
-use mathlib.Core.List.{List}
-use lib.ListN.{length, replicate}
 use Rattle.basics.specs.declared.Verdict.TheVariants.{Done}
 use Rattle.basics.specs.Outcome.{outcome}
-use Rattle.basics.specs.Rounds.{none}
 use Rattle.basics.specs.Verdict.{verdict_number}
 use Rattle.columns.proofs.Fresh.{fresh-refused, fresh-done}
 use Rattle.quorum.specs.declared.Settings.{Settings}
-use Rattle.learner_tables.specs.Tables.{Tables, tables, fresh_tables, learner_allowed, learner_fresh}
+use Rattle.learner_tables.specs.Tables.{Tables, fresh_tables, learner_allowed, filled_fresh, learner_fresh}
 use Rattle.learner_tables.proofs.Laws.{allowed-tables}
 
 module _ (s : Settings) (t : Tables) (fine : Bool) (fine-so : fine ≡ learner_allowed s t) where
@@ -20,11 +17,8 @@ module _ (s : Settings) (t : Tables) (fine : Bool) (fine-so : fine ≡ learner_a
   unfolding learner_fresh
   refused-7 no_way = fresh-refused t (fresh_tables s.instances) fine-so no_way
 
-  pub filled : fine ≡ true → (answer : ℕ) (rounds sets values : List ℕ) → answer ≡ verdict_number Done → rounds ≡ replicate (length t.rounds) none.0
-      → sets ≡ replicate (length t.sets) 0 → values ≡ replicate (length t.values) 0
-      → outcome answer (tables rounds sets values) ≡ learner_fresh s t
+  pub filled : fine ≡ true → (answer : ℕ) (after : Tables) → answer ≡ verdict_number Done → after ≡ filled_fresh t → outcome answer after ≡ learner_fresh s t
   unfolding learner_fresh
-  filled passed answer rounds sets values answer-so rounds-so sets-so values-so =
+  filled passed answer after answer-so after-so =
       let sized = (allowed-tables s t (sym fine-so ∙ passed)).sized in
-      fresh-done t (fresh_tables s.instances) fine-so passed answer-so
-      (rw (rounds-so, sets-so, values-so, sized.of_rounds, sized.of_sets, sized.of_values))
+      fresh-done t (fresh_tables s.instances) fine-so passed answer-so (after-so ∙ rw (sized.of_rounds, sized.of_sets, sized.of_values))

@@ -47,6 +47,10 @@ is_allowed s rounds sets values = allowed s && eqb rounds s.instances && eqb set
 abbrev pub learner_allowed : Settings → Tables → Bool
 learner_allowed s t = is_allowed s (length t.rounds) (length t.sets) (length t.values)
 
+-- Each column filled with its fresh number, as long as it is.
+abbrev pub filled_fresh : Tables → Tables
+filled_fresh t = tables (replicate (length t.rounds) none.0) (replicate (length t.sets) 0) (replicate (length t.values) 0)
+
 -- The tables as a run begins with them, whatever they held; 7 where they are not allowed.
 unfoldable pub learner_fresh : Settings → Tables → Outcome Tables
 learner_fresh s t = set_fresh (learner_allowed s t) t (fresh_tables s.instances)

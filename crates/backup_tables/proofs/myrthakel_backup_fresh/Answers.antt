@@ -1,5 +1,6 @@
--- `backup_tables::myrthakel_backup_fresh` meets its contract: it refuses by `tables_allowed`, or fills each column, which then is the fresh one.
+-- `backup_tables::myrthakel_backup_fresh` meets its contract: it refuses by `tables_allowed`, or sets the tables fresh.
 -- Assumes nothing.
+use Rattle.std.proofs.Common.{rules}
 use Rattle.backup_tables.proofs.Ways.{refused-7, filled}
 use Rattle.backup_tables.proofs.myrthakel_backup_fresh.Goals as goal
 
@@ -8,6 +9,5 @@ returns-then-not-tables_allowed c = refused-7 _ _ _ c.tables_allowed.ensures c.i
 
 pub returns : goal.returns
 returns c =
-    filled _ _ _ c.tables_allowed.ensures c.if-not-tables_allowed.false _ _ _ _ _ _ _ c.verdict_number.ensures c.fill_rounds.ensures
-    c.fill_bytes.ensures c.fill_bytes-2.ensures c.fill_rounds-2.ensures c.fill_halves.ensures
-    c.fill_halves-2.ensures
+    let done = filled _ _ _ c.tables_allowed.ensures c.if-not-tables_allowed.false _ _ c.verdict_number.ensures c.set_fresh.ensures.filled in
+    search (rules, done)

@@ -1,11 +1,11 @@
--- `learner_tables::all_possible` meets its contract. The invariant: the judgment of the cells that are left is that of all.
+-- `SharedTables::all_possible` meets its contract. The invariant: the judgment of the cells that are left is that of all.
 -- Assumes nothing.
 use mathlib.Core.Path.{sym, ap, ◌∙◌}
 use native.Mathlib.Omega.{arith}
 use Rattle.learner_tables.specs.Tables.{all_possible}
 use Rattle.columns.proofs.Walks.{cells-all, every-next, every-stops, every-ends}
 use Rattle.learner_cell.specs.Cell.{possible}
-use Rattle.learner_tables.proofs.all_possible.Goals as goal
+use Rattle.learner_tables.proofs.SharedTables.all_possible.Goals as goal
 
 pub loop-index-init : goal.loop-index-init
 loop-index-init c = (omega arith, ap (all_possible _) (cells-all _ _))

@@ -1,0 +1,6 @@
+-- `Tables::are_allowed` meets its contract: the columns' lengths are judged.
+-- Assumes nothing.
+use Rattle.backup_tables.proofs.Tables.are_allowed.Goals as goal
+
+pub returns : goal.returns
+returns c = c.is_allowed.ensures

@@ -1,9 +1,0 @@
--- `backup_tables::store_cell` meets its contract: each column is written as its call ensures.
--- Assumes nothing.
-use Rattle.backup_tables.proofs.Laws.{same_tables}
-use Rattle.backup_tables.proofs.store_cell.Goals as goal
-
-pub returns : goal.returns
-returns c =
-    same_tables c.put_round.ensures c.put_byte.ensures c.put_byte-2.ensures c.put_round-2.ensures
-    c.put_value.ensures c.put_value-2.ensures

@@ -1,0 +1,6 @@
+-- `SharedTables::are_allowed` meets its contract: the columns' lengths are judged.
+-- Assumes nothing.
+use Rattle.learner_tables.proofs.SharedTables.are_allowed.Goals as goal
+
+pub returns : goal.returns
+returns c = c.is_allowed.ensures
