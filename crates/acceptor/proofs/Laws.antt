@@ -6,21 +6,19 @@ use mathlib.Core.Bool.{true}
 use mathlib.Core.List.{List}
 use native.Mathlib.Omega.{arith}
 use Rattle.basics.specs.declared.Instance.{Instance}
-use Rattle.basics.specs.declared.Place.TheVariants.{At}
 use Rattle.basics.specs.declared.Round.{Round}
 use Rattle.basics.specs.declared.Value.{Value}
 use Rattle.basics.specs.declared.Verdict.TheVariants.{ToLeader, ToLearners}
 use Rattle.basics.specs.Ladder.{need◌or◌then◌}
 use Rattle.basics.specs.Outcome.{outcome, lent}
-use Rattle.basics.specs.Places.{placed}
+use Rattle.basics.specs.Places.{At, placed}
 use Rattle.basics.specs.Rounds.{at_most}
 use Rattle.basics.specs.Verdict.{verdict_number}
 use Rattle.basics.proofs.Places.{PlacedBy, placed-index, placed_by, placed-there}
 use Rattle.messages.specs.declared.Message.{Message}
 use Rattle.messages.specs.declared.Message.TheVariants.{Prepare, Promise, Propose, Vote}
 use Rattle.messages.specs.Message.{when_prepare, when_propose}
-use Rattle.wire.specs.declared.Reading.TheVariants.{Read}
-use Rattle.wire.specs.Packet.{read_packet, packet_of}
+use Rattle.wire.specs.Packet.{Read, read_packet, packet_of}
 use Rattle.player.specs.Step.{Ruling, refused, ruled}
 use Rattle.player.proofs.Steps.{step-rules}
 use Rattle.quorum.specs.declared.Settings.{Settings}

@@ -1,27 +1,24 @@
 -- Acceptor: its step, by its rules at the cells of its lent tables.
 -- Assumes nothing.
-use Rattle.std.specs.Prelude.{ℕ, List}
-use Rattle.basics.specs.declared.Place.{Place}
-use Rattle.basics.specs.declared.Place.TheVariants.{Nowhere}
+use Rattle.std.specs.Prelude.{ℕ, Option, Some, None, List}
 use Rattle.basics.specs.Outcome.{Outcome, Lent}
-use Rattle.basics.specs.Places.{placed}
+use Rattle.basics.specs.Places.{Place, Nowhere, placed}
 use Rattle.messages.specs.declared.Message.{Message}
 use Rattle.player.specs.Step.{Ruling, refused, Player, step}
 use Rattle.quorum.specs.declared.Settings.{Settings}
 use Rattle.acceptor_rule.specs.declared.Cell.{Cell}
-use Rattle.acceptor_rule.specs.declared.Ordered.{Ordered}
-use Rattle.acceptor_rule.specs.declared.Ordered.TheVariants as ordered
+use Rattle.acceptor_rule.specs.declared.Order.{Order}
 use Rattle.acceptor_rule.specs.Rule.{order_of, obey}
 use Rattle.acceptor_tables.specs.Tables.{Tables, cell_at, with_cell, acceptor_allowed}
 
 -- Refused by 6 if neither prepare nor propose, by 8 if the instance is not below N.
-abbrev pub place_of : (N : ℕ) → Ordered → Place
-place_of N (ordered.Order o) = placed N o.instance
-place_of N ordered.OtherKind = Nowhere 6
+abbrev pub place_of : (N : ℕ) → Option Order → Place
+place_of N (Some o) = placed N o.instance
+place_of N None = Nowhere 6
 
-abbrev pub rule_of : (own : ℕ) → Cell → Ordered → Ruling Cell
-rule_of own c (ordered.Order o) = obey own c o
-rule_of own c ordered.OtherKind = refused 6
+abbrev pub rule_of : (own : ℕ) → Cell → Option Order → Ruling Cell
+rule_of own c (Some o) = obey own c o
+rule_of own c None = refused 6
 
 abbrev pub place : (N : ℕ) → Message → Place
 place N m = place_of N (order_of m)

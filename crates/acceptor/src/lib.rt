@@ -1,86 +1,95 @@
 // The acceptor: obeys prepares and proposes at the cells of its lent tables.
 #![tactic(auto)]
 
-ghost use Rattle.std.specs.Prelude.{◌≡◌, length};
+ghost use Rattle.std.specs.Prelude.{◌≡◌, length, Ok};
+ghost use Rattle.basics.specs.Verdict.{verdict_number};
+ghost use Rattle.basics.specs.Answer.{answer_number};
 ghost use Rattle.basics.specs.Outcome.{outcome, lent};
 ghost use Rattle.wire.specs.Packet.{packet_length};
 ghost use Rattle.player.specs.Step.{ruled};
 ghost use Rattle.quorum.specs.Settings.{settings};
 ghost use Rattle.acceptor_rule.specs.Rule.{ruling_of};
 ghost use Rattle.acceptor_tables.specs.Tables.{tables, cell_at, with_cell, Within};
+ghost use Rattle.acceptor_tables.specs.Lent.{tables_behind, SameReferences};
 ghost use Rattle.acceptor.specs.Acceptor.{acceptor_step};
 
-use acceptor_rule::{Cell, Ordered, Ruled};
-use basics::{Place, Round, Value, Verdict};
+use acceptor_rule::{Cell, Obeyed};
+use acceptor_tables::Tables;
+use basics::{Answer, Refusal, Round, Value, Verdict};
 use quorum::Settings;
-use wire::Reading;
 
-fn cell_at(rounds: &[u32], vote_rounds: &[u32], values: &[u64], index: usize) -> Cell
-    requires { Within (tables rounds.now vote_rounds.now values.now) index }
-    ensures { result ≡ cell_at (tables rounds.now vote_rounds.now values.now) index }
+fn cell_at(tables: &Tables<'_>, index: usize) -> Cell
+    requires { Within (tables_behind tables.now) index }
+    ensures { result ≡ cell_at (tables_behind tables.now) index }
 {
     let high = 2 * index;
     Cell {
-        round: Round(rounds[index]),
-        vote_round: Round(vote_rounds[index]),
+        round: Round(tables.rounds[index]),
+        vote_round: Round(tables.vote_rounds[index]),
         value: Value {
-            high: values[high],
-            low: values[high + 1],
+            high: tables.values[high],
+            low: tables.values[high + 1],
         },
     }
 }
 
-fn store_cell(
-    rounds: &mut [u32],
-    vote_rounds: &mut [u32],
-    values: &mut [u64],
-    index: usize,
-    cell: Cell,
-)
-    requires { Within (tables rounds.old vote_rounds.old values.old) index }
-    ensures { let before = tables rounds.old vote_rounds.old values.old in
-        let after = tables rounds.new vote_rounds.new values.new in
-        after ≡ with_cell before index cell }
+fn store_cell(tables: &mut Tables<'_>, index: usize, cell: Cell)
+    requires { Within (tables_behind tables.old) index }
+    ensures stored { tables_behind tables.new ≡ with_cell (tables_behind tables.old) index cell }
+    ensures same_references { SameReferences tables.old tables.new }
 {
     let high = 2 * index;
-    rounds[index] = cell.round.0;
-    vote_rounds[index] = cell.vote_round.0;
-    values[high] = cell.value.high;
-    values[high + 1] = cell.value.low;
+    tables.rounds[index] = cell.round.0;
+    tables.vote_rounds[index] = cell.vote_round.0;
+    tables.values[high] = cell.value.high;
+    tables.values[high + 1] = cell.value.low;
 }
 
-// What the rule came to is stored and sent. One arm stores first and the other sends first: arms that are alike the compiler merges, which cost five
+// What an obeyed order came to is stored and sent. One arm stores first and the other sends first: arms that are alike the compiler merges, which cost five
 // instructions a packet when it was tried.
-fn carry_out(
-    answer: Ruled,
-    packet: &mut [u8],
-    rounds: &mut [u32],
-    vote_rounds: &mut [u32],
-    values: &mut [u64],
-    index: usize,
-) -> u32
-    requires inside { Within (tables rounds.old vote_rounds.old values.old) index }
+#[inline(always)]
+fn carry_out(obeyed: Obeyed, packet: &mut [u8], tables: &mut Tables<'_>, index: usize) -> Verdict
+    requires inside { Within (tables_behind tables.old) index }
     requires long { length packet.old ≡ packet_length }
-    ensures { let before = tables rounds.old vote_rounds.old values.old in
-        let after = tables rounds.new vote_rounds.new values.new in
-        outcome result (lent packet.new after) ≡ ruled packet.old before (with_cell before index) (ruling_of answer) }
+    ensures ruled { let before = tables_behind tables.old in
+        let left = lent packet.new (tables_behind tables.new) in
+        outcome (verdict_number result) left ≡ ruled packet.old before (with_cell before index) (ruling_of (Ok obeyed)) }
+    ensures same_references { SameReferences tables.old tables.new }
 {
-    match answer {
-        Ruled::Refused(number) => number,
-        Ruled::Promised { cell, message } => {
-            store_cell(rounds, vote_rounds, values, index, cell);
+    match obeyed {
+        Obeyed::Promised { cell, message } => {
+            store_cell(tables, index, cell);
             wire::put_message(packet, message);
-            basics::verdict_number(Verdict::ToLeader)
+            Verdict::ToLeader
         }
-        Ruled::Voted { cell, message } => {
+        Obeyed::Voted { cell, message } => {
             wire::put_message(packet, message);
-            store_cell(rounds, vote_rounds, values, index, cell);
-            basics::verdict_number(Verdict::ToLearners)
+            store_cell(tables, index, cell);
+            Verdict::ToLearners
         }
     }
 }
 
-// One packet: the verdict or the refusal is answered as a number, and packet and tables are left as `acceptor_step` says.
+// One packet: the verdict or the refusal, and packet and tables are left as `acceptor_step` says.
+pub fn step(settings: Settings, own: u32, packet: &mut [u8], tables: &mut Tables<'_>) -> Answer
+    ensures stepped { let left = lent packet.new (tables_behind tables.new) in
+        outcome (answer_number result) left ≡ acceptor_step settings own packet.old (tables_behind tables.old) }
+    ensures same_references { SameReferences tables.old tables.new }
+{
+    if !tables.are_allowed(settings, own) {
+        return Err(Refusal::NotAllowed);
+    }
+    let message = wire::read_packet(packet)?;
+    let Some(order) = acceptor_rule::order_of(message) else {
+        return Err(Refusal::WrongKind);
+    };
+    let index = basics::place_of(settings.instances, order.instance)?;
+    let cell = cell_at(tables, index);
+    let obeyed = acceptor_rule::obey(own as u16, cell, order)?;
+    Ok(carry_out(obeyed, packet, tables, index))
+}
+
+// The same for C, which lends each column by itself and is answered a number.
 #[unsafe(no_mangle)]
 pub extern "C" fn myrthakel_acceptor_step(
     acceptors: u32,
@@ -99,22 +108,10 @@ pub extern "C" fn myrthakel_acceptor_step(
         acceptors,
         instances,
     };
-    if !acceptor_tables::is_allowed(settings, own, rounds.len(), vote_rounds.len(), values.len()) {
-        return 7;
-    }
-    let reading = wire::read_packet(packet);
-    let Reading::Read(message) = reading else {
-        return wire::refusal(reading);
+    let mut tables = Tables {
+        rounds,
+        vote_rounds,
+        values,
     };
-    let ordered = acceptor_rule::order_of(message);
-    let Ordered::Order(order) = ordered else {
-        return 6;
-    };
-    let place = basics::place_of(instances, order.instance);
-    let Place::At(index) = place else {
-        return basics::nowhere(place);
-    };
-    let cell = cell_at(rounds, vote_rounds, values, index);
-    let answer = acceptor_rule::obey(own as u16, cell, order);
-    carry_out(answer, packet, rounds, vote_rounds, values, index)
+    basics::answer_number(step(settings, own, packet, &mut tables))
 }

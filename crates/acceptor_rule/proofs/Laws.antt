@@ -1,6 +1,7 @@
 -- Laws of an acceptor's cell and rules, for the crates above: a possible cell stays possible, and what holds of every way out holds of the ruling.
 -- Assumes nothing.
 use Prim.Native.Nat.{ℕ, ◌^◌, ◌<◌}
+use Rattle.std.specs.Prelude.{Option, Some, None}
 use mathlib.Core.Path.{◌≡◌, refl, sym}
 use mathlib.Core.Bool.{true}
 use Rattle.basics.proofs.Values.{ValueFits}
@@ -20,8 +21,6 @@ use Rattle.player.specs.Step.{Ruling, refused}
 use Rattle.acceptor_rule.specs.declared.Cell.{Cell}
 use Rattle.acceptor_rule.specs.declared.Order.{Order}
 use Rattle.acceptor_rule.specs.declared.Asked.TheVariants as asked
-use Rattle.acceptor_rule.specs.declared.Ordered.{Ordered}
-use Rattle.acceptor_rule.specs.declared.Ordered.TheVariants as ordered
 use Rattle.acceptor_rule.specs.Rule.{cell, possible, order, order_of, obeying, obey}
 use Rattle.acceptor_rule.specs.Promises.{FreshPossible}
 
@@ -57,8 +56,8 @@ unfolding obey
 obey-elim P own c o impossible below obeyed = need-elim P _ _ _ impossible λ fine. need-elim P _ _ _ below λ low. obeyed fine low
 
 -- what holds of both kinds of order, and of the other kinds, holds of what a message orders
-pub order-elim : (P : Ordered → Type 0) (m : Message) → ((i : Instance) (r : Round) → m ≡ Prepare i r → P (ordered.Order (order i r asked.Promise)))
-    → ((i : Instance) (r : Round) (v : Value) → m ≡ Propose i r v → P (ordered.Order (order i r (asked.Vote v)))) → P ordered.OtherKind → P (order_of m)
+pub order-elim : (P : Option Order → Type 0) (m : Message) → ((i : Instance) (r : Round) → m ≡ Prepare i r → P (Some (order i r asked.Promise)))
+    → ((i : Instance) (r : Round) (v : Value) → m ≡ Propose i r v → P (Some (order i r (asked.Vote v)))) → P None → P (order_of m)
 unfolding order_of
 order-elim P m prepares proposes other = prepare-elim P _ _ m prepares (propose-elim P _ _ m proposes other)
 

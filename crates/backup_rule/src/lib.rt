@@ -1,19 +1,18 @@
 // A backup's rules at one cell: how it starts, and how promises are counted.
 #![tactic(auto)]
 
-ghost use Rattle.std.specs.Prelude.{◌≡◌, max};
+ghost use Rattle.std.specs.Prelude.{◌≡◌, max, Ok};
 ghost use Rattle.backup_rule.specs.Rule.{next_round, start, counting, chosen, when_majority, take_promise, ruling_of};
 
 use backup_cell::Cell;
-use basics::{Instance, Round, Value};
+use basics::{Instance, Refusal, Round, Value};
 use messages::Message;
 
-// What a start or a promise comes to at a cell.
+// What a start or a promise that is taken comes to at a cell: the next cell, and the message that goes out where one does.
 #[derive(Clone, Copy)]
-pub enum Ruled {
+pub enum Taken {
     Sent { cell: Cell, message: Message },
     Held { cell: Cell },
-    Refused(u32),
 }
 
 // ---- start
@@ -45,28 +44,28 @@ pub fn start(
     instance: Instance,
     floor: u32,
     value: Value,
-) -> Ruled
+) -> Result<Taken, Refusal>
     ensures { ruling_of result ≡ start acceptors own cell instance floor value }
 {
     if !backup_cell::is_possible(acceptors, own, cell) {
-        return Ruled::Refused(17);
+        return Err(Refusal::ImpossibleCell);
     }
     let next = next_round(own, cell.round, floor);
     if (basics::NONE as u64) <= next {
-        return Ruled::Refused(16);
+        return Err(Refusal::NoRoundLeft);
     }
     let round = Round(next as u32);
-    Ruled::Sent {
+    Ok(Taken::Sent {
         cell: Cell {
             round,
             phase: backup_cell::ASKING,
             set: 0,
-            best_vote_round: Round(basics::NONE),
-            best_value: Value { high: 0, low: 0 },
+            best_vote_round: Round::NONE,
+            best_value: Value::NULL,
             own_value: value,
         },
         message: Message::Prepare { instance, round },
-    }
+    })
 }
 
 // ---- promises
@@ -75,28 +74,15 @@ pub fn start(
 fn count_promise(cell: Cell, sender: u16, vote_round: Round, value: Value) -> Cell
     ensures { result ≡ counting cell sender vote_round value }
 {
-    let round = cell.round;
     let set = quorum::with_member(cell.set, sender);
-    let best_vote_round = cell.best_vote_round;
-    let best_value = cell.best_value;
-    let own_value = cell.own_value;
-    if basics::at_most(vote_round, best_vote_round) {
-        return Cell {
-            round,
-            phase: cell.phase,
-            set,
-            best_vote_round,
-            best_value,
-            own_value,
-        };
+    if basics::at_most(vote_round, cell.best_vote_round) {
+        return Cell { set, ..cell };
     }
     Cell {
-        round,
-        phase: cell.phase,
         set,
         best_vote_round: vote_round,
         best_value: value,
-        own_value,
+        ..cell
     }
 }
 
@@ -109,30 +95,21 @@ fn choose(cell: Cell) -> Value
     cell.best_value
 }
 
-fn propose_at_majority(acceptors: u32, instance: Instance, cell: Cell) -> Ruled
-    ensures { ruling_of result ≡ when_majority acceptors instance cell }
+fn propose_at_majority(acceptors: u32, instance: Instance, cell: Cell) -> Taken
+    ensures { ruling_of (Ok result) ≡ when_majority acceptors instance cell }
 {
     if !quorum::reaches_majority(acceptors, cell.set) {
-        return Ruled::Held { cell };
+        return Taken::Held { cell };
     }
-    let round = cell.round;
-    let best_vote_round = cell.best_vote_round;
-    let best_value = cell.best_value;
-    let own_value = cell.own_value;
-    let value = choose(cell);
-    Ruled::Sent {
+    Taken::Sent {
         cell: Cell {
-            round,
             phase: backup_cell::PROPOSED,
-            set: cell.set,
-            best_vote_round,
-            best_value,
-            own_value,
+            ..cell
         },
         message: Message::Propose {
             instance,
-            round,
-            value,
+            round: cell.round,
+            value: choose(cell),
         },
     }
 }
@@ -146,24 +123,21 @@ pub fn take_promise(
     round: Round,
     vote_round: Round,
     value: Value,
-) -> Ruled
+) -> Result<Taken, Refusal>
     ensures { ruling_of result ≡ take_promise acceptors own cell sender instance round vote_round value }
 {
     if acceptors <= (sender as u32) {
-        return Ruled::Refused(9);
+        return Err(Refusal::SenderBeyond);
     }
     if !backup_cell::is_possible(acceptors, own, cell) {
-        return Ruled::Refused(17);
+        return Err(Refusal::ImpossibleCell);
     }
     if !((cell.phase == backup_cell::ASKING) & basics::same_round(round, cell.round)) {
-        return Ruled::Refused(11);
+        return Err(Refusal::NotAsked);
     }
     if quorum::has_member(cell.set, sender) {
-        return Ruled::Refused(15);
+        return Err(Refusal::AlreadyCounted);
     }
-    propose_at_majority(
-        acceptors,
-        instance,
-        count_promise(cell, sender, vote_round, value),
-    )
+    let counted = count_promise(cell, sender, vote_round, value);
+    Ok(propose_at_majority(acceptors, instance, counted))
 }

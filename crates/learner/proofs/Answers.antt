@@ -4,11 +4,9 @@ use Prim.Native.Nat.{ℕ}
 use mathlib.Core.Path.{◌≡◌, refl}
 use native.Mathlib.Omega.{arith}
 use Rattle.basics.specs.declared.Instance.{Instance}
-use Rattle.basics.specs.declared.Place.{Place}
-use Rattle.basics.specs.declared.Place.TheVariants.{At, Nowhere}
 use Rattle.basics.specs.declared.Value.{Value}
 use Rattle.basics.specs.declared.Verdict.TheVariants.{Done, NotYet}
-use Rattle.basics.specs.Places.{placed}
+use Rattle.basics.specs.Places.{Place, At, Nowhere, placed}
 use Rattle.basics.specs.Verdict.{verdict_number}
 use Rattle.basics.proofs.Ladder.{need-elim, if-elim}
 use Rattle.basics.proofs.Places.{PlacedBy, placed_by}
@@ -16,9 +14,8 @@ use Rattle.player.specs.Promises.{OneOf}
 use Rattle.player.proofs.Numbers.{one_of}
 use Rattle.quorum.specs.declared.Settings.{Settings}
 use Rattle.learner_tables.specs.Tables.{Tables}
-use Rattle.learner.specs.declared.Answer.{Answer}
-use Rattle.learner.specs.declared.Answer.TheVariants as answers
-use Rattle.learner.specs.Learner.{answer_of_cell, answer_at, answer_for, answered}
+use Rattle.learner.specs.Learner as answers
+use Rattle.learner.specs.Learner.{Answer, answer_of_cell, answer_at, answer_for, answered}
 use Rattle.learner.specs.Promises.{answer_numbers, AnswerPromises}
 
 module _ (s : Settings) (instance : Instance) (t : Tables) (before : Value) where

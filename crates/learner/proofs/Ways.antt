@@ -1,96 +1,68 @@
 -- Each way out of the learner's step and of its answer is what the definitions say, by the tests that led there.
 -- Assumes nothing.
 use Prim.Native.Nat.{ℕ}
-use mathlib.Core.Path.{◌≡◌, refl, ap}
-use mathlib.Core.Bool.{Bool, true, false, not}
+use mathlib.Core.Path.{◌≡◌, ◌∙◌}
+use mathlib.Core.Bool.{Bool, true, false}
 use mathlib.Core.List.{List, [], ◌∷◌}
 use denote.Enum.Declared.{tag_of}
 use types.Run.{OneOf}
-use Rattle.basics.specs.Outcome.{Outcome, outcome, Lent, lent}
 use Rattle.basics.specs.declared.Instance.{Instance}
-use Rattle.basics.specs.declared.Place.{Place}
-use Rattle.basics.specs.declared.Place.TheVariants.{At, Nowhere}
 use Rattle.basics.specs.declared.Round.{Round}
 use Rattle.basics.specs.declared.Value.{Value}
-use Rattle.basics.specs.declared.Verdict.TheVariants.{Hold, Decided, Done, NotYet}
-use Rattle.basics.specs.Places.{placed, nowhere_of}
-use Rattle.basics.specs.Verdict.{verdict_number}
+use Rattle.basics.specs.Places.{At, Nowhere, placed}
 use Rattle.basics.specs.Ladder.{when◌then◌else◌, need◌or◌then◌}
 use Rattle.messages.specs.declared.Message.{Message}
 use Rattle.messages.specs.declared.Message.TheVariants.{Vote}
 use Rattle.messages.specs.Message.{when_vote}
 use Rattle.messages.proofs.Eliminators.{no-vote}
 use Rattle.messages.specs.contracts.Message.{the_type}
-use Rattle.wire.specs.declared.Reading.{Reading}
-use Rattle.wire.specs.declared.Reading.TheVariants.{Read, Refused}
-use Rattle.wire.specs.Packet.{read_packet, refusal_of}
-use Rattle.player.specs.Step.{unchanged, ruled, act}
+use Rattle.wire.specs.Packet.{Read, Refused, read_packet}
+use Rattle.player.specs.Step.{Ruling, unchanged, ruled, act}
 use Rattle.player.proofs.Steps as steps
 use Rattle.quorum.specs.declared.Settings.{Settings}
 use Rattle.learner_cell.specs.declared.Cell.{Cell}
-use Rattle.learner_rule.specs.declared.Ruled.{Ruled}
-use Rattle.learner_rule.specs.declared.Ruled.TheVariants as rulings
-use Rattle.learner_rule.specs.Rule.{count_vote, ruling_of}
+use Rattle.learner_rule.specs.Rule.{count_vote}
 use Rattle.learner_cell.specs.Cell.{is_decided, value_of, possible}
 use Rattle.learner_tables.specs.Tables.{Tables, cell_at, with_cell, learner_allowed}
-use Rattle.learner.specs.declared.Answer.{Answer}
-use Rattle.learner.specs.declared.Answer.TheVariants as answers
-use Rattle.learner.specs.Learner.{place, rule, learner, learner_step, answer_of_cell, answer_at, answer_for, answered}
-
--- ---- what a vote came to, stored
-
-module _ (packet : List ℕ) (t : Tables) (index : ℕ) (r : Ruled) where
-  pub carried-refused : (number : ℕ) → r ≡ rulings.Refused number → unchanged packet t number ≡ ruled packet t (with_cell t index) (ruling_of r)
-  unfolding ruled
-  carried-refused number r-so = rw r-so
-
-  pub carried-held : (c : Cell) (answer : ℕ) (next : Tables) → r ≡ rulings.Held c → answer ≡ verdict_number Hold → next ≡ with_cell t index c
-      → outcome answer (lent packet next) ≡ ruled packet t (with_cell t index) (ruling_of r)
-  carried-held c answer next r-so answer-so next-so = rw r-so (steps.counted packet t next (with_cell t index) answer Hold c answer-so next-so)
-
-  pub carried-decided : (c : Cell) (answer : ℕ) (next : Tables) → r ≡ rulings.Decided c → answer ≡ verdict_number Decided → next ≡ with_cell t index c
-      → outcome answer (lent packet next) ≡ ruled packet t (with_cell t index) (ruling_of r)
-  carried-decided c answer next r-so answer-so next-so = rw r-so (steps.counted packet t next (with_cell t index) answer Decided c answer-so next-so)
+use Rattle.learner.specs.Learner as answers
+use Rattle.learner.specs.Learner.{Answer, place, rule, learner, learner_step, answer_of_cell, answer_at, answer_for}
 
 -- ---- the step
 
 module _ (s : Settings) (packet : List ℕ) (t : Tables) (fine : Bool) (fine-so : fine ≡ learner_allowed s t) where
-  pub step-7 : fine ≡ false → unchanged packet t 7 ≡ learner_step s packet t
+  pub refused-7 : fine ≡ false → unchanged packet t 7 ≡ learner_step s packet t
   unfolding learner_step learner
-  step-7 no_way = steps.refused-7 (learner s) packet t fine fine-so (ap not no_way)
+  refused-7 no_way = steps.refused-7 (learner s) packet t fine fine-so no_way
 
   module _ (passed : fine ≡ true) where
-    module _ (reading : Reading) (reading-so : reading ≡ read_packet packet) where
-      pub malformed : (number answer : ℕ) → reading ≡ Refused number → answer ≡ refusal_of reading → unchanged packet t answer ≡ learner_step s packet t
+    pub malformed : (number : ℕ) → Refused number ≡ read_packet packet → unchanged packet t number ≡ learner_step s packet t
+    unfolding learner_step learner
+    malformed number refuses = steps.malformed (learner s) packet t fine fine-so passed number refuses
+
+    module _ (m : Message) (reads : Read m ≡ read_packet packet) where
+      acted : act (learner s) packet t m ≡ learner_step s packet t
       unfolding learner_step learner
-      malformed number answer refuses answer-so = steps.malformed (learner s) packet t fine fine-so (ap not passed) reading reading-so number answer refuses answer-so
+      acted = steps.acted (learner s) packet t fine fine-so passed m reads
 
-      module _ (m : Message) (reads : reading ≡ Read m) where
-        acted : (o : Outcome (Lent Tables)) → o ≡ act (learner s) packet t m → o ≡ learner_step s packet t
-        unfolding learner_step learner
-        acted o o-so = steps.acted (learner s) packet t fine fine-so (ap not passed) reading reading-so m o reads o-so
+      pub refused-6 : OneOf (0 ∷ 1 ∷ 2 ∷ 3 ∷ []) (tag_of the_type m) → unchanged packet t 6 ≡ learner_step s packet t
+      unfolding learner act place
+      refused-6 tag = steps.not-placed cell_at with_cell packet t (λ c. rule s.acceptors c m) _ 6 (no-vote _ _ m tag) ∙ acted
 
-        pub step-6 : OneOf (0 ∷ 1 ∷ 2 ∷ 3 ∷ []) (tag_of the_type m) → unchanged packet t 6 ≡ learner_step s packet t
-        unfolding learner act place
-        step-6 tag = acted _ (steps.not-placed cell_at with_cell packet t (λ c. rule s.acceptors c m) _ (Nowhere 6) (no-vote _ _ m tag) 6 6 refl refl)
+      module _ (sender : ℕ) (instance : Instance) (round : Round) (value : Value) (votes : m ≡ Vote sender instance round value) where
+        vote-placed : placed s.instances instance ≡ place s.instances m
+        unfolding place when_vote
+        vote-placed = rw votes
 
-        module _ (sender : ℕ) (instance : Instance) (round : Round) (value : Value) (votes : m ≡ Vote sender instance round value) (p : Place)
-            (p-so : p ≡ placed s.instances instance) where
-          stands : p ≡ place s.instances m
-          unfolding place when_vote
-          stands = rw votes p-so
+        pub nowhere : (number : ℕ) → Nowhere number ≡ placed s.instances instance → unchanged packet t number ≡ learner_step s packet t
+        unfolding learner act
+        nowhere number no_place =
+            steps.not-placed cell_at with_cell packet t (λ c. rule s.acceptors c m) _ number (no_place ∙ vote-placed) ∙ acted
 
-          pub step-nowhere : (number answer : ℕ) → p ≡ Nowhere number → answer ≡ nowhere_of p → unchanged packet t answer ≡ learner_step s packet t
-          unfolding learner act
-          step-nowhere number answer no_place answer-so =
-              acted _ (steps.not-placed cell_at with_cell packet t (λ c. rule s.acceptors c m) _ p stands number answer no_place answer-so)
-
-          pub step-there : (index : ℕ) (c : Cell) (r : Ruled) (o : Outcome (Lent Tables)) → p ≡ At index → c ≡ cell_at t index
-              → ruling_of r ≡ count_vote s.acceptors c sender round value → o ≡ ruled packet t (with_cell t index) (ruling_of r) → o ≡ learner_step s packet t
-          unfolding learner act rule when_vote
-          step-there index c r o at c-so r-so o-so =
-              acted o
-              (steps.placed_at cell_at with_cell packet t (λ d. rule s.acceptors d m) _ p stands index c (ruling_of r) o at c-so (rw votes r-so) o-so)
+        pub there : (index : ℕ) (c : Cell) (r : Ruling Cell) → At index ≡ placed s.instances instance → c ≡ cell_at t index
+            → r ≡ count_vote s.acceptors c sender round value → ruled packet t (with_cell t index) r ≡ learner_step s packet t
+        unfolding learner act rule when_vote
+        there index c r stands c-so r-so =
+            steps.placed_at cell_at with_cell packet t (λ d. rule s.acceptors d m) _ index c r (stands ∙ vote-placed) c-so (rw votes r-so) ∙ acted
 
 -- ---- the answer for an instance
 
@@ -113,25 +85,12 @@ module _ (s : Settings) (instance : Instance) (t : Tables) (fine : Bool) (fine-s
   unfolding answer_for need◌or◌then◌
   answer-7 no_way = rw (← fine-so, no_way)
 
-  module _ (passed : fine ≡ true) (place : Place) (place-so : place ≡ placed s.instances instance) where
-    pub answer-nowhere : (number refusal : ℕ) → place ≡ Nowhere number → refusal ≡ nowhere_of place → answers.Refused refusal ≡ answer_for s instance t
+  module _ (passed : fine ≡ true) where
+    pub answer-nowhere : (number : ℕ) → Nowhere number ≡ placed s.instances instance → answers.Refused number ≡ answer_for s instance t
     unfolding answer_for answer_at need◌or◌then◌
-    answer-nowhere number refusal no_place refusal-so = rw (← fine-so, passed, ← place-so, refusal-so, no_place)
+    answer-nowhere number no_place = rw (← fine-so, passed, ← no_place)
 
-    pub answer-there : (index : ℕ) (c : Cell) (r : Answer) → place ≡ At index → c ≡ cell_at t index → r ≡ answer_of_cell s.acceptors c → r ≡ answer_for s instance t
+    pub answer-there : (index : ℕ) (c : Cell) (a : Answer) → At index ≡ placed s.instances instance → c ≡ cell_at t index → a ≡ answer_of_cell s.acceptors c
+        → a ≡ answer_for s instance t
     unfolding answer_for answer_at need◌or◌then◌
-    answer-there index c r stands c-so r-so = rw (← fine-so, passed, ← place-so, stands, r-so, c-so)
-
--- the answer, as the call leaves it
-module _ (before : Value) (a : Answer) (number : ℕ) where
-  pub answered-value : (value : Value) → a ≡ answers.Decided value → number ≡ verdict_number Done → outcome number value ≡ answered before a
-  unfolding answered
-  answered-value value a-so number-so = rw (a-so, number-so)
-
-  pub answered-not-yet : a ≡ answers.NotYet → number ≡ verdict_number NotYet → outcome number before ≡ answered before a
-  unfolding answered
-  answered-not-yet a-so number-so = rw (a-so, number-so)
-
-  pub answered-refused : a ≡ answers.Refused number → outcome number before ≡ answered before a
-  unfolding answered
-  answered-refused a-so = rw a-so
+    answer-there index c a stands c-so a-so = rw (← fine-so, passed, ← stands, a-so, c-so)

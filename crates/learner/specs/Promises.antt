@@ -9,7 +9,7 @@ use Rattle.player.specs.Promises.{OneOf, packet_refusals, NumbersAre, RefusalKee
 use Rattle.quorum.specs.declared.Settings.{Settings}
 use Rattle.learner_cell.specs.Cell.{is_decided, possible}
 use Rattle.learner_tables.specs.Tables.{Tables, cell_at, Sized, Fitting}
-use Rattle.learner.specs.declared.Answer.TheVariants as answers
+use Rattle.learner.specs.Learner as answers
 use Rattle.learner.specs.Learner.{learner, learner_step, answer_for, answered}
 
 -- ---- the step

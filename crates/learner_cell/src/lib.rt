@@ -6,7 +6,7 @@ ghost use Rattle.learner_cell.specs.Cell.{fresh_cell, is_decided, has_vote, valu
 
 use basics::{Round, Value};
 
-#[derive(Clone, Copy)]
+#[derive(Clone, Copy, PartialEq, Eq)]
 pub struct Cell {
     pub round: Round,
     pub set: u8,
@@ -17,9 +17,9 @@ pub fn fresh_cell() -> Cell
     ensures { result ≡ fresh_cell }
 {
     Cell {
-        round: Round(basics::NONE),
+        round: Round::NONE,
         set: 0,
-        value: Value { high: 0, low: 0 },
+        value: Value::NULL,
     }
 }
 
@@ -47,7 +47,7 @@ pub fn value_of(acceptors: u32, cell: Cell) -> Value
 fn is_fresh(cell: Cell) -> bool
     ensures { result ≡ is_fresh cell }
 {
-    basics::is_none(cell.round) & (cell.set == 0) & basics::is_null(cell.value)
+    cell == fresh_cell()
 }
 
 fn is_heard(acceptors: u32, cell: Cell) -> bool

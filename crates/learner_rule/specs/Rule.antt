@@ -1,18 +1,19 @@
 -- How a vote is counted at a learner's cell, in the paper's order of refusals: 9, 17, 14, 10, 13, 15.
 -- Assumes nothing.
-use Rattle.std.specs.Prelude.{ℕ, not, ltb}
+use Rattle.std.specs.Prelude.{ℕ, not, ltb, Result, Ok, Err}
+use Rattle.basics.specs.declared.Refusal.{Refusal}
 use Rattle.basics.specs.declared.Round.{Round}
 use Rattle.basics.specs.declared.Value.{Value}
 use Rattle.basics.specs.declared.Verdict.TheVariants.{Hold, Decided}
 use Rattle.basics.specs.Ladder.{when◌then◌else◌, need◌or◌then◌}
+use Rattle.basics.specs.Refusal.{refusal_number}
 use Rattle.basics.specs.Rounds.{same_round, at_most}
 use Rattle.basics.specs.Values.{same_value}
 use Rattle.player.specs.Step.{Ruling, refused, counts}
 use Rattle.quorum.specs.Quorum.{has_member}
 use Rattle.learner_cell.specs.declared.Cell.{Cell}
 use Rattle.learner_cell.specs.Cell.{is_decided, possible, with_voter}
-use Rattle.learner_rule.specs.declared.Ruled.{Ruled}
-use Rattle.learner_rule.specs.declared.Ruled.TheVariants as answers
+use Rattle.learner_rule.specs.declared.Counted.{Counted}
 
 -- Hold, or decided on the vote that reaches majority.
 unfoldable pub hold_or_decide : (M : ℕ) → Cell → Ruling Cell
@@ -35,7 +36,6 @@ count_vote M c sender round value =
     when same_round round c.round then add_voter M c sender round value else hold_or_decide M (with_voter 0 sender round value)
 
 -- What each answer of the code comes to.
-abbrev pub ruling_of : Ruled → Ruling Cell
-ruling_of (answers.Held c) = counts Hold c
-ruling_of (answers.Decided c) = counts Decided c
-ruling_of (answers.Refused number) = refused number
+abbrev pub ruling_of : Result Counted Refusal → Ruling Cell
+ruling_of (Ok counted) = counts counted.verdict counted.cell
+ruling_of (Err refusal) = refused (refusal_number refusal)

@@ -9,7 +9,7 @@ use native.Mathlib.Omega.{arith}
 use lib.Dec.{eqb}
 use lib.ListN.{length}
 use borrow.Author.Tests.{eqb-true, eq-eqb}
-use Rattle.basics.specs.declared.Place.TheVariants.{At}
+use Rattle.basics.specs.Places.{At}
 use Rattle.basics.specs.declared.Value.{Value}
 use Rattle.basics.specs.Ladder.{need◌or◌then◌}
 use Rattle.basics.specs.Rounds.{the_instance}
@@ -19,9 +19,7 @@ use Rattle.messages.specs.declared.Message.{Message}
 use Rattle.messages.specs.declared.Message.TheVariants.{Request}
 use Rattle.messages.specs.Message.{when_request}
 use Rattle.messages.proofs.Eliminators.{request-elim}
-use Rattle.wire.specs.declared.Reading.{Reading}
-use Rattle.wire.specs.declared.Reading.TheVariants.{Read, Refused}
-use Rattle.wire.specs.Packet.{read_packet}
+use Rattle.wire.specs.Packet.{Reading, Read, Refused, read_packet}
 use Rattle.player.specs.Step.{Ruling, refused, sends, counts, unchanged, after_reading, after_placing, ruled, rule_at, act, step}
 use Rattle.player.proofs.Steps.{step-rules}
 use Rattle.quorum.specs.declared.Settings.{Settings}

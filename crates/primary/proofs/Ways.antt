@@ -2,12 +2,13 @@
 -- the call that sets the slice fresh.
 -- Assumes nothing.
 use Prim.Native.Nat.{ℕ}
+use Rattle.std.specs.Prelude.{Ok}
 use mathlib.Core.Path.{◌≡◌, refl, sym, ap, ◌∙◌}
-use mathlib.Core.Bool.{Bool, true, false, not}
+use mathlib.Core.Bool.{Bool, true, false}
 use mathlib.Core.List.{List, [], ◌∷◌}
 use native.Mathlib.Omega.{arith}
 use lib.ListN.{length, get_or, set}
-use Rattle.basics.specs.declared.Place.TheVariants.{At, Nowhere}
+use Rattle.basics.specs.Places.{Nowhere}
 use Rattle.basics.specs.declared.Value.{Value}
 use Rattle.basics.specs.declared.Verdict.TheVariants.{ToAcceptors, Done}
 use Rattle.basics.specs.Outcome.{Outcome, outcome, Lent, lent}
@@ -17,71 +18,62 @@ use Rattle.messages.specs.declared.Message.{Message}
 use Rattle.messages.specs.declared.Message.TheVariants.{Request}
 use Rattle.messages.specs.Message.{when_request}
 use Rattle.messages.proofs.Eliminators.{request-elim}
-use Rattle.wire.specs.declared.Reading.{Reading}
-use Rattle.wire.specs.declared.Reading.TheVariants.{Read, Refused}
-use Rattle.wire.specs.Packet.{packet_length, read_packet, refusal_of, with_message}
+use Rattle.wire.specs.Packet.{Read, Refused, read_packet, with_message}
+use Rattle.wire.proofs.Laws.{read_length}
 use Rattle.columns.proofs.Fresh.{fresh-refused, fresh-done}
-use Rattle.player.specs.Step.{unchanged, ruled, act}
+use Rattle.player.specs.Step.{Ruling, unchanged, ruled, act}
 use Rattle.player.proofs.Steps as steps
 use Rattle.quorum.specs.declared.Settings.{Settings}
 use Rattle.quorum.specs.Settings.{allowed}
 use Rattle.primary_rule.specs.declared.Cell.{Cell}
-use Rattle.primary_rule.specs.declared.Ruled.{Ruled}
-use Rattle.primary_rule.specs.declared.Ruled.TheVariants as answers
+use Rattle.primary_rule.specs.declared.Sent.{Sent}
 use Rattle.primary_rule.specs.Rule.{cell, fresh_cell, take_request, ruling_of}
 use Rattle.primary.specs.Primary.{is_allowed, primary_allowed, fresh_record, primary_fresh, place, rule, primary, primary_step, primary_by_reference, primary_request, as_slice}
 use Rattle.primary.proofs.Laws.{allowed-next, slice-is-the-record}
 
--- ---- what the rule came to, sent
-
-module _ (packet : List ℕ) (c : Cell) (r : Ruled) where
-  pub carried-refused : (number : ℕ) → r ≡ answers.Refused number → unchanged packet c number ≡ ruled packet c (λ next. next) (ruling_of r)
-  unfolding ruled
-  carried-refused number r-so = rw r-so
-
-  pub carried-sent : (next : Cell) (m : Message) (answer : ℕ) (left : List ℕ) → r ≡ answers.Sent next m → length packet ≡ packet_length
-      → answer ≡ verdict_number ToAcceptors → left ≡ with_message packet m → outcome answer (lent left next) ≡ ruled packet c (λ d. d) (ruling_of r)
-  carried-sent next m answer left r-so long answer-so left_so = rw r-so (steps.sent packet c next (λ d. d) answer ToAcceptors next answer-so refl left m long left_so)
-
--- ---- the step over the cell by value
+-- ---- the step over the record by reference
 
 module _ (s : Settings) (packet : List ℕ) (c : Cell) (fine : Bool) (fine-so : fine ≡ allowed s) where
   pub refused-7 : fine ≡ false → unchanged packet c 7 ≡ primary_request s packet c
   unfolding primary_request primary_by_reference
-  refused-7 no_way = steps.refused-7 (primary_by_reference s) packet c fine fine-so (ap not no_way)
+  refused-7 no_way = steps.refused-7 (primary_by_reference s) packet c fine fine-so no_way
 
-  module _ (passed : fine ≡ true) (reading : Reading) (reading-so : reading ≡ read_packet packet) where
-    pub malformed : (number answer : ℕ) → reading ≡ Refused number → answer ≡ refusal_of reading → unchanged packet c answer ≡ primary_request s packet c
+  module _ (passed : fine ≡ true) where
+    pub malformed : (number : ℕ) → Refused number ≡ read_packet packet → unchanged packet c number ≡ primary_request s packet c
     unfolding primary_request primary_by_reference
-    malformed number answer refuses answer-so =
-        steps.malformed (primary_by_reference s) packet c fine fine-so (ap not passed) reading reading-so number answer refuses answer-so
+    malformed number refuses = steps.malformed (primary_by_reference s) packet c fine fine-so passed number refuses
 
-    module _ (m : Message) (reads : reading ≡ Read m) where
-      acted : (o : Outcome (Lent Cell)) → o ≡ act (primary_by_reference s) packet c m → o ≡ primary_request s packet c
+    module _ (m : Message) (reads : Read m ≡ read_packet packet) where
+      acted : act (primary_by_reference s) packet c m ≡ primary_request s packet c
       unfolding primary_request primary_by_reference
-      acted o o-so = steps.acted (primary_by_reference s) packet c fine fine-so (ap not passed) reading reading-so m o reads o-so
+      acted = steps.acted (primary_by_reference s) packet c fine fine-so passed m reads
 
       pub refused-6 : ((switch : ℕ) (value : Value) → m ≡ Request switch value → ⊥) → unchanged packet c 6 ≡ primary_request s packet c
       unfolding primary_by_reference act
-      refused-6 none =
-          acted _ (steps.not-placed (λ d index. d) (λ d index next. next) packet c (λ d. rule s.instances d m) _ (Nowhere 6) no_place 6 6 refl refl)
+      refused-6 none = steps.not-placed (λ d index. d) (λ d index next. next) packet c (λ d. rule s.instances d m) _ 6 no_place ∙ acted
         where
           no_place : Nowhere 6 ≡ place m
           no_place = request-elim (λ p. Nowhere 6 ≡ p) _ _ m (λ switch value asks. absurd (none switch value asks)) refl
 
-      pub request-taken : (switch : ℕ) (value : Value) → m ≡ Request switch value → (r : Ruled) (left : Outcome (Lent Cell))
-          → ruling_of r ≡ take_request s.instances c value → left ≡ ruled packet c (λ next. next) (ruling_of r) → left ≡ primary_request s packet c
+      pub request-taken : (switch : ℕ) (value : Value) → m ≡ Request switch value → (r : Ruling Cell) → r ≡ take_request s.instances c value
+          → ruled packet c (λ next. next) r ≡ primary_request s packet c
       unfolding primary_by_reference act when_request
-      request-taken switch value asks r left r-so left_so =
-          acted left
-          (steps.placed_at (λ d index. d) (λ d index next. next) packet c (λ d. rule s.instances d m) _ (At 0) (rw asks) 0 c (ruling_of r) left refl refl (rw asks r-so) left_so)
+      request-taken switch value asks r r-so =
+          steps.placed_at (λ d index. d) (λ d index next. next) packet c (λ d. rule s.instances d m) _ 0 c r (rw asks) refl (rw asks r-so) ∙ acted
+
+      -- the message that goes out
+      pub sent : (switch : ℕ) (value : Value) → m ≡ Request switch value → (out : Sent) (left : List ℕ) → ruling_of (Ok out) ≡ take_request s.instances c value
+          → left ≡ with_message packet out.message → outcome (verdict_number ToAcceptors) (lent left out.cell) ≡ primary_request s packet c
+      sent switch value asks out left out-so left_so =
+          steps.sent packet c out.cell (λ d. d) ToAcceptors out.cell refl left out.message (read_length packet m (sym reads)) left_so
+          ∙ request-taken switch value asks (ruling_of (Ok out)) out-so
 
 -- ---- the step over a slice
 
 pub slice-refused-7 : (s : Settings) (packet next : List ℕ) (fine : Bool) → fine ≡ primary_allowed s next → fine ≡ false
     → unchanged packet next 7 ≡ primary_step s packet next
 unfolding primary_step primary
-slice-refused-7 s packet next fine fine-so no_way = steps.refused-7 (primary s) packet next fine fine-so (ap not no_way)
+slice-refused-7 s packet next fine fine-so no_way = steps.refused-7 (primary s) packet next fine fine-so no_way
 
 pub one_number : (s : Settings) (count : ℕ) (fine : Bool) → fine ≡ is_allowed s count → fine ≡ true → count ≡ 1
 one_number s count fine fine-so passed = (allowed-next s count (sym fine-so ∙ passed)).sized
@@ -92,6 +84,14 @@ pub stored : (s : Settings) (packet next : List ℕ) → length next ≡ 1 → (
 stored s packet [] long o o-so = absurd (omega arith)
 stored s packet (number ∷ []) long o o-so = ap as_slice o-so ∙ sym (slice-is-the-record s packet number)
 stored s packet (number ∷ second ∷ rest) long o o-so = absurd (omega arith)
+
+-- and a refusal leaves the slice as it came
+pub kept : (s : Settings) (packet next : List ℕ) → length next ≡ 1 → (number : ℕ) (left : List ℕ)
+    → outcome number (lent left (cell (the_instance (get_or next 0 0)))) ≡ primary_request s packet (cell (the_instance (get_or next 0 0)))
+    → outcome number (lent left next) ≡ primary_step s packet next
+kept s packet [] long number left refused = absurd (omega arith)
+kept s packet (only ∷ []) long number left refused = stored s packet (only ∷ []) long _ refused
+kept s packet (only ∷ second ∷ rest) long number left refused = absurd (omega arith)
 
 -- ---- the record set fresh
 

@@ -1,9 +1,12 @@
 -- Primary: its step, by its rule at its one cell. The primary's record is kept by its caller and updated by each request: it is lent as a slice of one
 -- number, or by reference.
 -- Assumes nothing.
-use Rattle.std.specs.Prelude.{ℕ, ◌^◌, Bool, ◌&&◌, List, [], ◌∷◌, eqb, length, get_or, set}
-use Rattle.basics.specs.declared.Place.{Place}
-use Rattle.basics.specs.declared.Place.TheVariants.{At, Nowhere}
+use Rattle.std.specs.Prelude.{ℕ, Result, Ok, Err, ◌^◌, Bool, ◌&&◌, List, [], ◌∷◌, eqb, length, get_or, set}
+use Rattle.basics.specs.declared.Refusal.{Refusal}
+use Rattle.basics.specs.declared.Verdict.TheVariants.{ToAcceptors}
+use Rattle.basics.specs.Refusal.{refusal_number}
+use Rattle.basics.specs.Verdict.{verdict_number}
+use Rattle.basics.specs.Places.{Place, At, Nowhere}
 use Rattle.basics.specs.Outcome.{Outcome, outcome, Lent, lent}
 use Rattle.basics.specs.Rounds.{the_instance}
 use Rattle.messages.specs.declared.Message.{Message}
@@ -78,6 +81,11 @@ primary_by_reference s = record {
 
 unfoldable pub primary_request : Settings → (packet : List ℕ) → Cell → Outcome (Lent Cell)
 primary_request s = step (primary_by_reference s)
+
+-- What each answer of the code comes to: a refusal leaves the cell as it was.
+abbrev pub stepped : (before : Cell) → (packet : List ℕ) → Result Cell Refusal → Outcome (Lent Cell)
+stepped before packet (Ok next) = outcome (verdict_number ToAcceptors) (lent packet next)
+stepped before packet (Err refusal) = outcome (refusal_number refusal) (lent packet before)
 
 -- What is left of the record, as a slice of one number.
 abbrev pub as_slice : Outcome (Lent Cell) → Outcome (Lent (List ℕ))

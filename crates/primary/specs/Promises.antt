@@ -7,8 +7,7 @@ use Rattle.basics.specs.Outcome.{Outcome, outcome, Lent, lent}
 use Rattle.basics.specs.Rounds.{the_instance, the_round}
 use Rattle.basics.specs.Verdict.{verdict_number}
 use Rattle.messages.specs.declared.Message.TheVariants.{Request, Propose}
-use Rattle.wire.specs.declared.Reading.TheVariants.{Read}
-use Rattle.wire.specs.Packet.{read_packet, packet_of}
+use Rattle.wire.specs.Packet.{Read, read_packet, packet_of}
 use Rattle.player.specs.Promises.{packet_refusals, NumbersAre, RefusalKeepsAll, UsesCell, OtherCellsStay, PossibleStays, SendsKept, FittingStays}
 use Rattle.columns.specs.Fresh.{SetsFresh}
 use Rattle.quorum.specs.declared.Settings.{Settings}

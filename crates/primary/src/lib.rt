@@ -1,19 +1,16 @@
 // The primary leader: takes requests at its one cell, the record that its caller keeps and lends for each packet, as a slice of one number or by reference.
 #![tactic(auto)]
 
-ghost use Rattle.std.specs.Prelude.{◌≡◌, length};
+ghost use Rattle.std.specs.Prelude.{◌≡◌};
+ghost use Rattle.basics.specs.Answer.{answer_number};
 ghost use Rattle.basics.specs.Outcome.{outcome, lent};
-ghost use Rattle.wire.specs.Packet.{packet_length};
-ghost use Rattle.player.specs.Step.{ruled};
 ghost use Rattle.quorum.specs.Settings.{settings};
-ghost use Rattle.primary_rule.specs.Rule.{ruling_of};
-ghost use Rattle.primary.specs.Primary.{is_allowed, primary_fresh, primary_step, primary_request};
+ghost use Rattle.primary.specs.Primary.{is_allowed, primary_fresh, primary_step, primary_request, stepped};
 
-use basics::{Instance, Verdict};
+use basics::{Answer, Instance, Refusal, Verdict};
 use messages::Message;
-use primary_rule::{Cell, Ruled};
+use primary_rule::Cell;
 use quorum::Settings;
-use wire::Reading;
 
 // Refusal 7 by itself, of the record as a slice: M and N are allowed, and the slice has one number.
 pub fn is_allowed(settings: Settings, next: usize) -> bool
@@ -32,71 +29,47 @@ pub extern "C" fn myrthakel_primary_fresh(acceptors: u32, instances: u32, next: 
         instances,
     };
     if !is_allowed(settings, next.len()) {
-        return 7;
+        return Refusal::NotAllowed as u32;
     }
-    let cell = primary_rule::fresh_cell();
-    next[0] = cell.next.0;
-    basics::verdict_number(Verdict::Done)
+    let fresh = primary_rule::fresh_cell();
+    next[0] = fresh.next.0;
+    Verdict::Done as u32
 }
 
-// What a step answers, and the cell afterwards.
-#[derive(Clone, Copy)]
-struct Stepped {
-    cell: Cell,
-    answer: u32,
-}
-
-// What the rule came to is sent, and the next cell is given back.
-fn carry_out(answer: Ruled, cell: Cell, packet: &mut [u8]) -> Stepped
-    requires { length packet.old ≡ packet_length }
-    ensures { let left = lent packet.new result.cell in
-        outcome result.answer left ≡ ruled packet.old cell (λ next. next) (ruling_of answer) }
+// One packet, over the cell by value: the next cell, where a propose goes out to the acceptors. It judges M and N itself, so that the call by reference need not.
+#[inline(always)]
+pub fn step(settings: Settings, cell: Cell, packet: &mut [u8]) -> Result<Cell, Refusal>
+    ensures { stepped cell packet.new result ≡ primary_request settings packet.old cell }
 {
-    match answer {
-        Ruled::Refused(number) => Stepped {
-            cell,
-            answer: number,
-        },
-        Ruled::Sent {
-            cell: next,
-            message,
-        } => {
-            wire::put_message(packet, message);
-            Stepped {
-                cell: next,
-                answer: basics::verdict_number(Verdict::ToAcceptors),
-            }
-        }
+    if !quorum::settings_allowed(settings) {
+        return Err(Refusal::NotAllowed);
     }
-}
-
-// The step over the cell by value, which both calls below make. It judges M and N itself, so that the call by reference need not.
-fn step(acceptors: u32, instances: u32, cell: Cell, packet: &mut [u8]) -> Stepped
-    ensures { let left = lent packet.new result.cell in
-        outcome result.answer left ≡ primary_request (settings acceptors instances) packet.old cell }
-{
-    if !quorum::settings_allowed(Settings {
-        acceptors,
-        instances,
-    }) {
-        return Stepped { cell, answer: 7 };
-    }
-    let reading = wire::read_packet(packet);
-    let Reading::Read(message) = reading else {
-        return Stepped {
-            cell,
-            answer: wire::refusal(reading),
-        };
-    };
+    let message = wire::read_packet(packet)?;
     let Message::Request { switch: _, value } = message else {
-        return Stepped { cell, answer: 6 };
+        return Err(Refusal::WrongKind);
     };
-    let answer = primary_rule::take_request(instances, cell, value);
-    carry_out(answer, cell, packet)
+    let sent = primary_rule::take_request(settings.instances, cell, value)?;
+    wire::put_message(packet, sent.message);
+    Ok(sent.cell)
 }
 
-// One packet, the record lent as a slice of one number: the verdict or the refusal is answered as a number, and packet and record are left as
-// `primary_step` says.
+// The same, the record lent as a slice of one number.
+pub fn step_slice(settings: Settings, packet: &mut [u8], next: &mut [u32]) -> Answer
+    ensures { outcome (answer_number result) (lent packet.new next.new) ≡ primary_step settings packet.old next.old }
+{
+    if !is_allowed(settings, next.len()) {
+        return Err(Refusal::NotAllowed);
+    }
+    let number = next[0];
+    let cell = Cell {
+        next: Instance(number),
+    };
+    let taken = step(settings, cell, packet)?;
+    next[0] = taken.next.0;
+    Ok(Verdict::ToAcceptors)
+}
+
+// The same for C, which is answered a number.
 #[unsafe(no_mangle)]
 pub extern "C" fn myrthakel_primary_step(
     acceptors: u32,
@@ -111,16 +84,7 @@ pub extern "C" fn myrthakel_primary_step(
         acceptors,
         instances,
     };
-    if !is_allowed(settings, next.len()) {
-        return 7;
-    }
-    let number = next[0];
-    let cell = Cell {
-        next: Instance(number),
-    };
-    let stepped = step(acceptors, instances, cell, packet);
-    next[0] = stepped.cell.next.0;
-    stepped.answer
+    basics::answer_number(step_slice(settings, packet, next))
 }
 
 // One packet, the record lent by reference: one thin call over the step by value.
@@ -134,7 +98,15 @@ pub extern "C" fn myrthakel_primary_request(
     ensures { let left = lent packet.new cell.new in
         outcome result left ≡ primary_request (settings acceptors instances) packet.old cell.old }
 {
-    let stepped = step(acceptors, instances, *cell, packet);
-    *cell = stepped.cell;
-    stepped.answer
+    let settings = Settings {
+        acceptors,
+        instances,
+    };
+    match step(settings, *cell, packet) {
+        Ok(next) => {
+            *cell = next;
+            basics::verdict_number(Verdict::ToAcceptors)
+        }
+        Err(refusal) => basics::refusal_number(refusal),
+    }
 }

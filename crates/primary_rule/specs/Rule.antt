@@ -1,17 +1,18 @@
 -- The primary's cell, and how it takes a request. Holds the next instance, fresh 0. Its rule alone needs N: its one cell counts the instances, where every
 -- other player has a cell for each of them.
 -- Assumes nothing.
-use Rattle.std.specs.Prelude.{ℕ, ◌+◌, Bool, not, eqb, leb}
+use Rattle.std.specs.Prelude.{ℕ, Result, Ok, Err, ◌+◌, Bool, not, eqb, leb}
 use Rattle.basics.specs.declared.Instance.{Instance}
+use Rattle.basics.specs.declared.Refusal.{Refusal}
 use Rattle.basics.specs.declared.Value.{Value}
 use Rattle.basics.specs.declared.Verdict.TheVariants.{ToAcceptors}
 use Rattle.basics.specs.Ladder.{need◌or◌then◌}
+use Rattle.basics.specs.Refusal.{refusal_number}
 use Rattle.basics.specs.Rounds.{the_instance, the_round}
 use Rattle.messages.specs.declared.Message.TheVariants.{Propose}
 use Rattle.player.specs.Step.{Ruling, refused, sends}
 use Rattle.primary_rule.specs.declared.Cell.{Cell}
-use Rattle.primary_rule.specs.declared.Ruled.{Ruled}
-use Rattle.primary_rule.specs.declared.Ruled.TheVariants.{Sent, Refused}
+use Rattle.primary_rule.specs.declared.Sent.{Sent}
 
 abbrev pub cell : (next : Instance) → Cell
 cell next = record { next = next }
@@ -39,6 +40,6 @@ take_request N c value =
     proposing c value
 
 -- What each answer of the code comes to.
-abbrev pub ruling_of : Ruled → Ruling Cell
-ruling_of (Sent c m) = sends ToAcceptors m c
-ruling_of (Refused number) = refused number
+abbrev pub ruling_of : Result Sent Refusal → Ruling Cell
+ruling_of (Ok sent) = sends ToAcceptors sent.message sent.cell
+ruling_of (Err refusal) = refused (refusal_number refusal)

@@ -4,7 +4,7 @@
 ghost use Rattle.std.specs.Prelude.{◌≡◌};
 ghost use Rattle.primary_rule.specs.Rule.{fresh_cell, possible, take_request, ruling_of};
 
-use basics::{Instance, Round, Value};
+use basics::{Instance, Refusal, Round, Value};
 use messages::Message;
 
 // What the primary keeps: one cell for all instances. Its caller may lend it by reference, so it is laid out as in C.
@@ -14,11 +14,11 @@ pub struct Cell {
     pub next: Instance,
 }
 
-// What a request comes to at the cell: the next cell and the message that goes out, or the refusal.
+// What a request that is taken comes to at the cell: the next cell and the message that goes out.
 #[derive(Clone, Copy)]
-pub enum Ruled {
-    Sent { cell: Cell, message: Message },
-    Refused(u32),
+pub struct Sent {
+    pub cell: Cell,
+    pub message: Message,
 }
 
 pub fn fresh_cell() -> Cell
@@ -35,18 +35,18 @@ pub fn is_possible(instances: u32, cell: Cell) -> bool
 }
 
 // A request becomes a propose with the next instance, which rises by 1.
-pub fn take_request(instances: u32, cell: Cell, value: Value) -> Ruled
+pub fn take_request(instances: u32, cell: Cell, value: Value) -> Result<Sent, Refusal>
     ensures { ruling_of result ≡ take_request instances cell value }
 {
     if !is_possible(instances, cell) {
-        return Ruled::Refused(17);
+        return Err(Refusal::ImpossibleCell);
     }
     let instance = cell.next;
     if instance.0 == instances {
-        return Ruled::Refused(12);
+        return Err(Refusal::NoInstanceLeft);
     }
     let risen = instance.0 + 1;
-    Ruled::Sent {
+    Ok(Sent {
         cell: Cell {
             next: Instance(risen),
         },
@@ -55,5 +55,5 @@ pub fn take_request(instances: u32, cell: Cell, value: Value) -> Ruled
             round: Round(0),
             value,
         },
-    }
+    })
 }

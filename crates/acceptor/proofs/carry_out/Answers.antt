@@ -1,20 +1,17 @@
--- `acceptor::carry_out` meets its contract: each arm knows what the rule came to, and stores and sends that.
+-- `acceptor::carry_out` meets its contract: each arm knows what the order came to, and stores and sends that.
 -- Assumes nothing.
-use mathlib.Core.Path.{ap}
+use Rattle.std.proofs.Common.{ap}
+use Rattle.std.specs.Prelude.{Ok}
 use Rattle.basics.specs.declared.Verdict.TheVariants.{ToLeader, ToLearners}
 use Rattle.acceptor_rule.specs.Rule.{ruling_of}
-use Rattle.acceptor.proofs.Ways.{carried-refused, carried-sent}
+use Rattle.acceptor.proofs.Ways.{carried-sent}
 use Rattle.acceptor.proofs.carry_out.Goals as goal
 
-pub returns-in-Refused : goal.returns-in-Refused
-returns-in-Refused c = carried-refused _ _ _ _ _ c.in-Refused.is
+pub returns-in-Promised-clause-ruled : goal.returns-in-Promised-clause-ruled
+returns-in-Promised-clause-ruled c =
+    carried-sent _ _ _ _ ToLeader _ _ _ _ (ap (λ o. ruling_of (Ok o)) c.in-Promised.is) c.requires.long c.put_message.ensures c.store_cell.ensures.stored
 
-pub returns-in-Promised : goal.returns-in-Promised
-returns-in-Promised c =
-    carried-sent _ _ _ c.args.answer ToLeader _ _ _ _ _ (ap ruling_of c.in-Promised.is) c.requires.long c.verdict_number.ensures
-    c.put_message.ensures c.store_cell.ensures
-
-pub returns-in-Voted : goal.returns-in-Voted
-returns-in-Voted c =
-    carried-sent _ _ _ c.args.answer ToLearners _ _ _ _ _ (ap ruling_of c.in-Voted.is) c.requires.long c.verdict_number-in-Voted.ensures
-    c.put_message-in-Voted.ensures c.store_cell-in-Voted.ensures
+pub returns-in-Voted-clause-ruled : goal.returns-in-Voted-clause-ruled
+returns-in-Voted-clause-ruled c =
+    carried-sent _ _ _ _ ToLearners _ _ _ _ (ap (λ o. ruling_of (Ok o)) c.in-Voted.is) c.requires.long c.put_message-in-Voted.ensures
+    c.store_cell-in-Voted.ensures.stored

@@ -1,16 +1,14 @@
--- `backup::carry_out` meets its contract: each arm knows what the rule came to, and stores and sends that.
+-- `backup::carry_out` meets its contract: each arm knows what the start or the promise came to, and stores and sends that.
 -- Assumes nothing.
-use Rattle.backup.proofs.Ways.{carried-refused, carried-held, carried-sent}
+use Rattle.std.proofs.Common.{ap}
+use Rattle.std.specs.Prelude.{Ok}
+use Rattle.backup_rule.specs.Rule.{ruling_of}
+use Rattle.backup.proofs.Ways.{carried-held, carried-sent}
 use Rattle.backup.proofs.carry_out.Goals as goal
 
-pub returns-in-Refused : goal.returns-in-Refused
-returns-in-Refused c = carried-refused _ _ _ _ _ c.in-Refused.is
+pub returns-in-Held-clause-ruled : goal.returns-in-Held-clause-ruled
+returns-in-Held-clause-ruled c = carried-held _ _ _ _ _ _ (ap (λ t. ruling_of (Ok t)) c.in-Held.is) c.store_cell.ensures.stored
 
-pub returns-in-Held : goal.returns-in-Held
-returns-in-Held c =
-    carried-held _ _ _ _ _ _ _ c.in-Held.is c.verdict_number.ensures c.store_cell.ensures
-
-pub returns-in-Sent : goal.returns-in-Sent
-returns-in-Sent c =
-    carried-sent _ _ _ _ _ _ _ _ _ c.in-Sent.is c.requires c.verdict_number-in-Sent.ensures c.put_message.ensures
-    c.store_cell-in-Sent.ensures
+pub returns-in-Sent-clause-ruled : goal.returns-in-Sent-clause-ruled
+returns-in-Sent-clause-ruled c =
+    carried-sent _ _ _ _ _ _ _ _ (ap (λ t. ruling_of (Ok t)) c.in-Sent.is) c.requires c.put_message.ensures c.store_cell-in-Sent.ensures.stored

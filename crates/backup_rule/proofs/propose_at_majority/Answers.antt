@@ -12,4 +12,4 @@ returns-then-not-reaches_majority c = sym (if-false _ _ (sym c.reaches_majority.
 pub returns : goal.returns
 unfolding when_majority
 returns c =
-    rw c.choose-value.ensures (sym (if-true _ _ (sym c.reaches_majority.ensures ∙ c.if-not-reaches_majority.false)))
+    rw c.choose.ensures (sym (if-true _ _ (sym c.reaches_majority.ensures ∙ c.if-not-reaches_majority.false)))

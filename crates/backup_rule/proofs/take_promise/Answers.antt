@@ -22,6 +22,6 @@ returns-then-has_member c =
 
 pub returns : goal.returns
 returns c =
-    c.propose_at_majority.ensures ∙ ap (when_majority _ _) c.count_promise.ensures
+    c.propose_at_majority.ensures ∙ ap (when_majority _ _) c.count_promise-counted.ensures
     ∙ promise-counted _ _ _ _ _ _ _ _ c.if-acceptors-sender.false _ c.is_possible.ensures c.if-not-is_possible.false _ c.same_round.ensures c.if-not-cell-same_round.false
     _ c.has_member.ensures c.if-has_member.false

@@ -8,7 +8,7 @@ returns-then-not-is_possible c = cell-17 _ _ _ c.is_possible.ensures c.if-not-is
 
 pub returns-then-is_decided : goal.returns-then-is_decided
 returns-then-is_decided c =
-    cell-decided _ _ _ c.is_possible.ensures c.if-not-is_possible.false _ c.is_decided.ensures c.if-is_decided.true _ c.value_of-value.ensures
+    cell-decided _ _ _ c.is_possible.ensures c.if-not-is_possible.false _ c.is_decided.ensures c.if-is_decided.true _ c.value_of.ensures
 
 pub returns : goal.returns
 returns c =

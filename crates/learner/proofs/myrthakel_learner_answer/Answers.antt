@@ -1,15 +1,21 @@
 -- `learner::myrthakel_learner_answer` meets its contract: each arm knows the answer, and leaves what that says.
 -- Assumes nothing.
-use mathlib.Core.Path.{ap, ◌∙◌}
-use Rattle.learner.specs.Learner.{answered}
-use Rattle.learner.proofs.Ways.{answered-value, answered-not-yet, answered-refused}
+use Rattle.std.proofs.Common.{Ok, sym, ap, ◌∙◌}
+use Rattle.learner.specs.Learner.{answer_of, answered}
 use Rattle.learner.proofs.myrthakel_learner_answer.Goals as goal
 
-pub returns-in-Decided : goal.returns-in-Decided
-returns-in-Decided c = answered-value _ _ _ _ c.in-Decided.is c.verdict_number.ensures ∙ ap (answered _) c.answer_for.ensures
+pub returns-in-Ok-Some : goal.returns-in-Ok-Some
+unfolding answered
+returns-in-Ok-Some c =
+    let said = ap answer_of (c.in-Ok-Some.is ∙ ap Ok c.in-Ok-Some.field-0-is) in
+    rw c.verdict_number.ensures (ap (answered _) (sym said ∙ c.answer_for.ensures))
 
-pub returns-in-NotYet : goal.returns-in-NotYet
-returns-in-NotYet c = answered-not-yet _ _ _ c.in-NotYet.is c.verdict_number-in-NotYet.ensures ∙ ap (answered _) c.answer_for.ensures
+pub returns-in-Ok-None : goal.returns-in-Ok-None
+unfolding answered
+returns-in-Ok-None c =
+    let said = ap answer_of (c.in-Ok-None.is ∙ ap Ok c.in-Ok-None.field-0-is) in
+    rw c.verdict_number-in-Ok-None.ensures (ap (answered _) (sym said ∙ c.answer_for.ensures))
 
-pub returns-in-Refused : goal.returns-in-Refused
-returns-in-Refused c = answered-refused _ _ _ c.in-Refused.is ∙ ap (answered _) c.answer_for.ensures
+pub returns-in-Err : goal.returns-in-Err
+unfolding answered
+returns-in-Err c = rw c.refusal_number.ensures (ap (answered _) (sym (ap answer_of c.in-Err.is) ∙ c.answer_for.ensures))

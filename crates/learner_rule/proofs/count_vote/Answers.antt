@@ -22,7 +22,7 @@ returns-then-not-at_most c =
 
 pub returns-then-not-same_round : goal.returns-then-not-same_round
 returns-then-not-same_round c =
-    c.hold_or_decide.ensures ∙ ap (hold_or_decide _) c.with_voter.ensures
+    c.hold_or_decide.ensures ∙ ap (hold_or_decide _) c.with_voter-next.ensures
     ∙ vote-higher _ _ _ _ _ c.if-acceptors-sender.false _ c.is_possible.ensures c.if-not-is_possible.false _ c.is_decided.ensures c.if-is_decided.false
     _ c.at_most.ensures c.if-not-at_most.false _ c.same_round.ensures c.if-not-same_round.true
 
@@ -42,5 +42,5 @@ pub returns : goal.returns
 returns c =
     vote-added _ _ _ _ _ c.if-acceptors-sender.false _ c.is_possible.ensures c.if-not-is_possible.false _ c.is_decided.ensures c.if-is_decided.false
     _ c.at_most.ensures c.if-not-at_most.false _ c.same_round.ensures _ c.if-not-same_round.false
-    (c.hold_or_decide-2.ensures ∙ ap (hold_or_decide _) c.with_voter-2.ensures
+    (c.hold_or_decide-2.ensures ∙ ap (hold_or_decide _) c.with_voter-next-2.ensures
     ∙ added-counted _ _ _ _ _ _ c.same_value.ensures c.if-not-same_value.false _ c.has_member.ensures c.if-has_member.false)

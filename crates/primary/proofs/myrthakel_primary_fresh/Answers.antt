@@ -1,5 +1,6 @@
 -- `primary::myrthakel_primary_fresh` meets its contract: a slice that is not allowed is refused, and the one number of another becomes the fresh cell's.
 -- Assumes nothing.
+use Rattle.std.proofs.Common.{refl}
 use native.Mathlib.Omega.{arith}
 use Rattle.primary.proofs.Ways.{one_number, fresh-refused-7, freshly-stored}
 use Rattle.primary.proofs.myrthakel_primary_fresh.Goals as goal
@@ -13,4 +14,4 @@ bounds-next-0 c =
 
 pub returns : goal.returns
 returns c =
-    freshly-stored _ _ _ c.is_allowed.ensures c.if-not-is_allowed.false _ _ c.verdict_number.ensures c.fresh_cell-cell.ensures
+    freshly-stored _ _ _ c.is_allowed.ensures c.if-not-is_allowed.false _ _ refl c.fresh_cell-fresh.ensures

@@ -1,8 +1,0 @@
--- `backup_cell::is_fresh` meets its contract: each test is what its call ensures.
--- Assumes nothing.
-use Rattle.backup_cell.specs.Cell.{is_fresh}
-use Rattle.backup_cell.proofs.is_fresh.Goals as goal
-
-pub returns : goal.returns
-unfolding is_fresh
-returns c = rw (c.same_round.ensures, c.is_none.ensures, c.is_null.ensures, c.is_null-2.ensures)
