@@ -2,12 +2,37 @@
 #![tactic(auto)]
 
 ghost use Rattle.std.specs.Prelude.{◌≡◌};
+ghost use Rattle.basics.specs.Answer.{answer_number};
 ghost use Rattle.basics.specs.Outcome.{outcome, lent};
 ghost use Rattle.quorum.specs.Settings.{settings};
 ghost use Rattle.acceptor_tables.specs.Tables.{tables};
+ghost use Rattle.acceptor_tables.specs.Lent.{tables_behind, SameReferences};
 ghost use Rattle.acceptor_port.specs.Port.{acceptor_frame};
 
+use acceptor_tables::Tables;
+use basics::{Answer, Refusal};
 use quorum::Settings;
+
+fn step(
+    settings: Settings,
+    own: u32,
+    port: u16,
+    frame: &mut [u8],
+    tables: &mut Tables<'_>,
+) -> Answer
+    ensures stepped { let left = lent frame.new (tables_behind tables.new) in
+        outcome (answer_number result) left ≡ acceptor_frame settings own port frame.old (tables_behind tables.old) }
+    ensures same_references { SameReferences tables.old tables.new }
+{
+    if !tables.are_allowed(settings, own) {
+        return Err(Refusal::NotAllowed);
+    }
+    frames::check(port, frame)?;
+    let packet = &mut frame[frames::PACKET_AT..frames::FRAME_LENGTH];
+    let answer = acceptor::step(settings, own, packet, tables);
+    frames::set_checksums(frame);
+    answer
+}
 
 #[unsafe(no_mangle)]
 pub extern "C" fn myrthakel_acceptor_frame(
@@ -28,22 +53,10 @@ pub extern "C" fn myrthakel_acceptor_frame(
         acceptors,
         instances,
     };
-    if !acceptor_tables::is_allowed(settings, own, rounds.len(), vote_rounds.len(), values.len()) {
-        return 7;
-    }
-    let checked = frames::myrthakel_frame_check(port, frame);
-    if checked != frames::PASSES {
-        return checked;
-    }
-    let answer = acceptor::myrthakel_acceptor_step(
-        acceptors,
-        instances,
-        own,
-        &mut frame[frames::PACKET_AT..frames::FRAME_LENGTH],
+    let mut tables = Tables {
         rounds,
         vote_rounds,
         values,
-    );
-    frames::set_checksums(frame);
-    answer
+    };
+    basics::answer_number(step(settings, own, port, frame, &mut tables))
 }

@@ -2,12 +2,37 @@
 #![tactic(auto)]
 
 ghost use Rattle.std.specs.Prelude.{◌≡◌};
+ghost use Rattle.basics.specs.Answer.{answer_number};
 ghost use Rattle.basics.specs.Outcome.{outcome, lent};
 ghost use Rattle.quorum.specs.Settings.{settings};
 ghost use Rattle.backup_tables.specs.Tables.{tables};
+ghost use Rattle.backup_tables.specs.Lent.{tables_behind, SameReferences};
 ghost use Rattle.backup_port.specs.Port.{backup_frame};
 
+use backup_tables::Tables;
+use basics::{Answer, Refusal};
 use quorum::Settings;
+
+fn step(
+    settings: Settings,
+    own: u32,
+    port: u16,
+    frame: &mut [u8],
+    tables: &mut Tables<'_>,
+) -> Answer
+    ensures stepped { let left = lent frame.new (tables_behind tables.new) in
+        outcome (answer_number result) left ≡ backup_frame settings own port frame.old (tables_behind tables.old) }
+    ensures same_references { SameReferences tables.old tables.new }
+{
+    if !tables.are_allowed(settings, own) {
+        return Err(Refusal::NotAllowed);
+    }
+    frames::check(port, frame)?;
+    let packet = &mut frame[frames::PACKET_AT..frames::FRAME_LENGTH];
+    let answer = backup::step(settings, own, packet, tables);
+    frames::set_checksums(frame);
+    answer
+}
 
 #[unsafe(no_mangle)]
 pub extern "C" fn myrthakel_backup_frame(
@@ -33,34 +58,13 @@ pub extern "C" fn myrthakel_backup_frame(
         acceptors,
         instances,
     };
-    if !backup_tables::is_allowed(
-        settings,
-        own,
-        rounds.len(),
-        phases.len(),
-        sets.len(),
-        best_vote_rounds.len(),
-        best_values.len(),
-        own_values.len(),
-    ) {
-        return 7;
-    }
-    let checked = frames::myrthakel_frame_check(port, frame);
-    if checked != frames::PASSES {
-        return checked;
-    }
-    let answer = backup::myrthakel_backup_step(
-        acceptors,
-        instances,
-        own,
-        &mut frame[frames::PACKET_AT..frames::FRAME_LENGTH],
+    let mut tables = Tables {
         rounds,
         phases,
         sets,
         best_vote_rounds,
         best_values,
         own_values,
-    );
-    frames::set_checksums(frame);
-    answer
+    };
+    basics::answer_number(step(settings, own, port, frame, &mut tables))
 }

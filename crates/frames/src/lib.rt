@@ -2,18 +2,16 @@
 #![tactic(auto)]
 
 ghost use Rattle.std.specs.Prelude.{◌≡◌, length};
+ghost use Rattle.basics.specs.Answer.{answer_number};
 ghost use Rattle.basics.specs.Outcome.{outcome};
 ghost use Rattle.frames.specs.Frame.{frame_length, ipv4_checksum, udp_checksum, carries_udp, frame_check, sealed, frame_seal};
 
-use basics::Verdict;
+use basics::{Answer, Refusal, Verdict};
 
 pub const FRAME_LENGTH: usize = 78;
 
 // The packet stands last.
 pub const PACKET_AT: usize = 42;
-
-// What a frame that passes is answered.
-pub const PASSES: u32 = 106;
 
 pub const ETHER_TYPE: u16 = 2048;
 
@@ -58,34 +56,43 @@ fn carries_udp(frame: &[u8]) -> bool
     requires { length frame.now ≡ frame_length }
     ensures { result ≡ carries_udp frame.now }
 {
-    (numbers::read_u16(frame, 12) == ETHER_TYPE)
+    (numbers::read::<u16>(frame, 12) == ETHER_TYPE)
         & (frame[14] == FIRST_BYTE)
-        & (numbers::read_u16(frame, 16) == TOTAL_LENGTH)
-        & (numbers::read_u16(frame, 20) % 16384 == 0)
+        & (numbers::read::<u16>(frame, 16) == TOTAL_LENGTH)
+        & (numbers::read::<u16>(frame, 20) % 16384 == 0)
         & (frame[23] == PROTOCOL)
 }
 
-// For a host that sorts frames before it hands them on: refused by 21 to 25, or done.
+// A frame is refused by 21 to 25, or passes.
+pub fn check(port: u16, frame: &[u8]) -> Answer
+    ensures { answer_number result ≡ frame_check port frame.now }
+{
+    if frame.len() != FRAME_LENGTH {
+        return Err(Refusal::WrongFrameLength);
+    }
+    if !carries_udp(frame) {
+        return Err(Refusal::WrongFrameHeader);
+    }
+    if numbers::read::<u16>(frame, 24) != ipv4_checksum(frame) {
+        return Err(Refusal::WrongIpv4Checksum);
+    }
+    if !((numbers::read::<u16>(frame, 38) == UDP_LENGTH)
+        & (numbers::read::<u16>(frame, 36) == port))
+    {
+        return Err(Refusal::WrongUdpHeader);
+    }
+    if numbers::read::<u16>(frame, 40) != udp_checksum(frame) {
+        return Err(Refusal::WrongUdpChecksum);
+    }
+    Ok(Verdict::Done)
+}
+
+// For a host that sorts frames before it hands them on.
 #[unsafe(no_mangle)]
 pub extern "C" fn myrthakel_frame_check(port: u16, frame: &[u8]) -> u32
     ensures { result ≡ frame_check port frame.now }
 {
-    if frame.len() != FRAME_LENGTH {
-        return 21;
-    }
-    if !carries_udp(frame) {
-        return 22;
-    }
-    if numbers::read_u16(frame, 24) != ipv4_checksum(frame) {
-        return 23;
-    }
-    if !((numbers::read_u16(frame, 38) == UDP_LENGTH) & (numbers::read_u16(frame, 36) == port)) {
-        return 24;
-    }
-    if numbers::read_u16(frame, 40) != udp_checksum(frame) {
-        return 25;
-    }
-    basics::verdict_number(Verdict::Done)
+    basics::answer_number(check(port, frame))
 }
 
 // Both checksums set anew, whatever else the frame says.
@@ -95,8 +102,8 @@ pub fn set_checksums(frame: &mut [u8])
     if frame.len() == FRAME_LENGTH {
         let ipv4 = ipv4_checksum(frame);
         let udp = udp_checksum(frame);
-        numbers::write_u16(frame, 24, ipv4);
-        numbers::write_u16(frame, 40, udp);
+        numbers::write(frame, 24, ipv4);
+        numbers::write(frame, 40, udp);
     }
 }
 
@@ -106,14 +113,14 @@ pub extern "C" fn myrthakel_frame_seal(frame: &mut [u8]) -> u32
     ensures { outcome result frame.new ≡ frame_seal frame.old }
 {
     if frame.len() != FRAME_LENGTH {
-        return 21;
+        return Refusal::WrongFrameLength as u32;
     }
     if !carries_udp(frame) {
-        return 22;
+        return Refusal::WrongFrameHeader as u32;
     }
-    if numbers::read_u16(frame, 38) != UDP_LENGTH {
-        return 24;
+    if numbers::read::<u16>(frame, 38) != UDP_LENGTH {
+        return Refusal::WrongUdpHeader as u32;
     }
     set_checksums(frame);
-    basics::verdict_number(Verdict::Done)
+    Verdict::Done as u32
 }

@@ -12,9 +12,7 @@ use Rattle.basics.specs.Outcome.{Outcome, outcome}
 use Rattle.basics.specs.Verdict.{verdict_number, is_verdict}
 use Rattle.basics.proofs.Ladder.{need-elim}
 use Rattle.messages.proofs.Eliminators.{prepare-elim}
-use Rattle.wire.specs.declared.Reading.{Reading}
-use Rattle.wire.specs.declared.Reading.TheVariants.{Read, Refused}
-use Rattle.wire.specs.Packet.{packet_length, read_packet}
+use Rattle.wire.specs.Packet.{Reading, Read, Refused, packet_length, read_packet}
 use Rattle.wire.proofs.Laws.{RefusedBy, reader-refuses, read_length}
 use Rattle.player.specs.Promises.{OneOf}
 use Rattle.player.proofs.Numbers.{one_of}

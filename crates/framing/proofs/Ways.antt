@@ -19,9 +19,7 @@ use Rattle.basics.specs.Verdict.{verdict_number}
 use Rattle.messages.specs.declared.Message.{Message}
 use Rattle.messages.specs.declared.Message.TheVariants.{Request, Prepare, Promise, Propose, Vote}
 use Rattle.messages.specs.Message.{when_prepare}
-use Rattle.wire.specs.declared.Reading.{Reading}
-use Rattle.wire.specs.declared.Reading.TheVariants.{Read, Refused}
-use Rattle.wire.specs.Packet.{packet_length, read_packet, refusal_of, packet_of, with_message}
+use Rattle.wire.specs.Packet.{Read, Refused, packet_length, read_packet, packet_of, with_message}
 use Rattle.wire.proofs.Laws.{put-over}
 use Rattle.frames.specs.Frame.{frame_length, ether_type, sealed}
 use Rattle.frames.specs.Header.{Header, ethernet_bytes, ipv4_bytes, udp_bytes, header_bytes, frame_of}
@@ -37,24 +35,24 @@ not-prepare here other (Promise s i r b v) differs = refl
 not-prepare here other (Propose i r v) differs = refl
 not-prepare here other (Vote s i r v) differs = refl
 
-module _ (h : Header) (p f : List ℕ) (reading : Reading) (reading-so : reading ≡ read_packet p) where
-  pub malformed : (number answer : ℕ) → reading ≡ Refused number → answer ≡ refusal_of reading → outcome answer f ≡ frame_prepare h p f
+module _ (h : Header) (p f : List ℕ) where
+  pub malformed : (number : ℕ) → Refused number ≡ read_packet p → outcome number f ≡ frame_prepare h p f
   unfolding frame_prepare prepare_framed
-  malformed number answer refuses answer-so = rw (← reading-so, answer-so, refuses)
+  malformed number refuses = rw (← refuses)
 
-  module _ (m : Message) (reads : reading ≡ Read m) where
+  module _ (m : Message) (reads : Read m ≡ read_packet p) where
     pub refused-6 : ((i : Instance) (r : Round) → m ≡ Prepare i r → ⊥) → outcome 6 f ≡ frame_prepare h p f
     unfolding frame_prepare prepare_framed
-    refused-6 other = rw (← reading-so, reads) (not-prepare _ _ m other)
+    refused-6 other = rw (← reads) (not-prepare _ _ m other)
 
     module _ (i : Instance) (r : Round) (asks : m ≡ Prepare i r) where
       pub refused-21 : (length f ≡ frame_length → ⊥) → outcome 21 f ≡ frame_prepare h p f
       unfolding frame_prepare prepare_framed when_prepare need◌or◌then◌
-      refused-21 other = rw (← reading-so, reads, asks, ne_eqb (length f) frame_length other)
+      refused-21 other = rw (← reads, asks, ne_eqb (length f) frame_length other)
 
-      pub framed : (answer : ℕ) (left : List ℕ) → length f ≡ frame_length → left ≡ frame_of h p → answer ≡ verdict_number Done → outcome answer left ≡ frame_prepare h p f
+      pub framed : (left : List ℕ) → length f ≡ frame_length → left ≡ frame_of h p → outcome (verdict_number Done) left ≡ frame_prepare h p f
       unfolding frame_prepare prepare_framed when_prepare need◌or◌then◌
-      framed answer left long left_so answer-so = rw (← reading-so, reads, asks, eq-eqb (length f) frame_length long, left_so, answer-so)
+      framed left long left_so = rw (← reads, asks, eq-eqb (length f) frame_length long, left_so)
 
 -- what is stored part after part from the front on is what the parts are together
 parts-stored : (f a b c : List ℕ) → length a ≡ 14 → length b ≡ 20 → sets (sets (sets f 0 a) 14 b) 34 c ≡ sets f 0 (a ++ b ++ c)

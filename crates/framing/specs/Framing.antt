@@ -6,9 +6,7 @@ use Rattle.basics.specs.Ladder.{need◌or◌then◌}
 use Rattle.basics.specs.Outcome.{Outcome, outcome}
 use Rattle.basics.specs.Verdict.{verdict_number}
 use Rattle.messages.specs.Message.{when_prepare}
-use Rattle.wire.specs.declared.Reading.{Reading}
-use Rattle.wire.specs.declared.Reading.TheVariants.{Read, Refused}
-use Rattle.wire.specs.Packet.{read_packet}
+use Rattle.wire.specs.Packet.{Reading, Read, Refused, read_packet}
 use Rattle.frames.specs.Frame.{frame_length}
 use Rattle.frames.specs.Header.{Header, frame_of}
 

@@ -1,2 +1,3 @@
 pub mod Framing
 pub mod Promises
+pub mod Given

@@ -3,12 +3,29 @@
 #![tactic(auto)]
 
 ghost use Rattle.std.specs.Prelude.{◌≡◌};
+ghost use Rattle.basics.specs.Answer.{answer_number};
 ghost use Rattle.basics.specs.Outcome.{outcome, lent};
 ghost use Rattle.quorum.specs.Settings.{settings};
 ghost use Rattle.learner_tables.specs.Tables.{tables};
+ghost use Rattle.learner_tables.specs.Lent.{tables_behind, SameReferences};
 ghost use Rattle.learner_port.specs.Port.{learner_frame};
 
+use basics::{Answer, Refusal};
+use learner_tables::Tables;
 use quorum::Settings;
+
+fn step(settings: Settings, port: u16, frame: &[u8], tables: &mut Tables<'_>) -> Answer
+    ensures stepped { let left = lent frame.now (tables_behind tables.new) in
+        outcome (answer_number result) left ≡ learner_frame settings port frame.now (tables_behind tables.old) }
+    ensures same_references { SameReferences tables.old tables.new }
+{
+    if !tables.are_allowed(settings) {
+        return Err(Refusal::NotAllowed);
+    }
+    frames::check(port, frame)?;
+    let packet = &frame[frames::PACKET_AT..frames::FRAME_LENGTH];
+    learner::step(settings, packet, tables)
+}
 
 #[unsafe(no_mangle)]
 pub extern "C" fn myrthakel_learner_frame(
@@ -28,19 +45,10 @@ pub extern "C" fn myrthakel_learner_frame(
         acceptors,
         instances,
     };
-    if !learner_tables::is_allowed(settings, rounds.len(), sets.len(), values.len()) {
-        return 7;
-    }
-    let checked = frames::myrthakel_frame_check(port, frame);
-    if checked != frames::PASSES {
-        return checked;
-    }
-    learner::myrthakel_learner_step(
-        acceptors,
-        instances,
-        &frame[frames::PACKET_AT..frames::FRAME_LENGTH],
+    let mut tables = Tables {
         rounds,
         sets,
         values,
-    )
+    };
+    basics::answer_number(step(settings, port, frame, &mut tables))
 }

@@ -2,11 +2,26 @@
 #![tactic(auto)]
 
 ghost use Rattle.std.specs.Prelude.{◌≡◌};
+ghost use Rattle.basics.specs.Answer.{answer_number};
 ghost use Rattle.basics.specs.Outcome.{outcome, lent};
 ghost use Rattle.quorum.specs.Settings.{settings};
 ghost use Rattle.primary_port.specs.Port.{primary_frame};
 
+use basics::{Answer, Refusal};
 use quorum::Settings;
+
+fn step(settings: Settings, port: u16, frame: &mut [u8], next: &mut [u32]) -> Answer
+    ensures { outcome (answer_number result) (lent frame.new next.new) ≡ primary_frame settings port frame.old next.old }
+{
+    if !primary::is_allowed(settings, next.len()) {
+        return Err(Refusal::NotAllowed);
+    }
+    frames::check(port, frame)?;
+    let packet = &mut frame[frames::PACKET_AT..frames::FRAME_LENGTH];
+    let answer = primary::step_slice(settings, packet, next);
+    frames::set_checksums(frame);
+    answer
+}
 
 #[unsafe(no_mangle)]
 pub extern "C" fn myrthakel_primary_frame(
@@ -23,19 +38,5 @@ pub extern "C" fn myrthakel_primary_frame(
         acceptors,
         instances,
     };
-    if !primary::is_allowed(settings, next.len()) {
-        return 7;
-    }
-    let checked = frames::myrthakel_frame_check(port, frame);
-    if checked != frames::PASSES {
-        return checked;
-    }
-    let answer = primary::myrthakel_primary_step(
-        acceptors,
-        instances,
-        &mut frame[frames::PACKET_AT..frames::FRAME_LENGTH],
-        next,
-    );
-    frames::set_checksums(frame);
-    answer
+    basics::answer_number(step(settings, port, frame, next))
 }

@@ -6,4 +6,4 @@ use Rattle.frames.proofs.carries_udp.Goals as goal
 pub returns : goal.returns
 unfolding carries_udp
 returns c =
-    rw (c.read_u16.ensures, c.read_u16-2.ensures, c.read_u16-3.ensures)
+    rw (c.read.ensures, c.read-2.ensures, c.read-3.ensures)

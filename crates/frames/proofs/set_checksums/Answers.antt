@@ -5,7 +5,7 @@ use Rattle.frames.proofs.set_checksums.Goals as goal
 
 pub returns-then-frame-eq-FRAME_LENGTH : goal.returns-then-frame-eq-FRAME_LENGTH
 returns-then-frame-eq-FRAME_LENGTH c =
-    rw (c.write_u16-then-frame-eq-FRAME_LENGTH.ensures, c.write_u16.ensures, c.udp_checksum-udp.ensures, c.ipv4_checksum-ipv4.ensures)
+    rw (c.write-then-frame-eq-FRAME_LENGTH.ensures, c.write.ensures, c.udp_checksum-udp.ensures, c.ipv4_checksum-ipv4.ensures)
     (stored c.args.frame.now c.if-frame-eq-FRAME_LENGTH.true)
 
 pub returns-else-frame-eq-FRAME_LENGTH : goal.returns-else-frame-eq-FRAME_LENGTH

@@ -6,6 +6,6 @@ use Rattle.framing.proofs.put_address.Goals as goal
 
 pub returns : goal.returns
 returns c =
-    rw (c.write_u16.ensures, c.read_u16.ensures, c.write_u32.ensures, c.read_u32.ensures)
-    (address-stored c.args.frame.now c.args.at c.args.address.now c.requires.inside c.requires.long
+    rw (c.write-2.ensures, c.read-2.ensures, c.write.ensures, c.read.ensures)
+    (address-stored c.args.frame.now c.args.at c.args.address.now c.requires (search rules)
     (λ i. search (arith, rules)))

@@ -6,12 +6,12 @@ use Rattle.framing.proofs.put_ipv4.Goals as goal
 pub returns : goal.returns
 returns c =
     rw (
-      c.write_u32-3.ensures,
-      c.write_u32-2.ensures,
-      c.write_u16-4.ensures,
-      c.write_u16-3.ensures,
-      c.write_u32.ensures,
-      c.write_u16-2.ensures,
-      c.write_u16.ensures,
+      c.write-7.ensures,
+      c.write-6.ensures,
+      c.write-5.ensures,
+      c.write-4.ensures,
+      c.write-3.ensures,
+      c.write-2.ensures,
+      c.write.ensures,
     )
     (ipv4-stored c.args.frame.now c.requires c.args.from c.args.to)

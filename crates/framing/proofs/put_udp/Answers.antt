@@ -5,5 +5,5 @@ use Rattle.framing.proofs.put_udp.Goals as goal
 
 pub returns : goal.returns
 returns c =
-    rw (c.write_u16-4.ensures, c.write_u16-3.ensures, c.write_u16-2.ensures, c.write_u16.ensures)
+    rw (c.write-4.ensures, c.write-3.ensures, c.write-2.ensures, c.write.ensures)
     (udp-stored c.args.frame.now c.requires c.args.from c.args.to)
