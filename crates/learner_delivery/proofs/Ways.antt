@@ -127,24 +127,24 @@ walk-done M t count instances buffer now now-so all_so = rw (all_so, now-so, len
 
 -- ---- the ways out of the call
 
-module _ (s : Settings) (t : Tables) (count : ℕ) (buffer : List ℕ) (fine : Bool) (fine-so : fine ≡ learner_allowed s t) where
-  pub deliver-7 : fine ≡ false → unchanged buffer count 7 ≡ deliver s t buffer count
+module _ (s : Settings) (t : Tables) (buffer : List ℕ) (fine : Bool) (fine-so : fine ≡ learner_allowed s t) where
+  pub deliver-7 : fine ≡ false → (count : ℕ) → unchanged buffer count 7 ≡ deliver s t buffer count
   unfolding deliver need◌or◌then◌
-  deliver-7 no_way = rw (← fine-so, no_way)
+  deliver-7 no_way count = rw (← fine-so, no_way)
 
   module _ (passed : fine ≡ true) where
-    pub deliver-1 : (length buffer ≡ 16 * s.instances → ⊥) → unchanged buffer count 1 ≡ deliver s t buffer count
+    pub deliver-1 : (length buffer ≡ 16 * s.instances → ⊥) → (count : ℕ) → unchanged buffer count 1 ≡ deliver s t buffer count
     unfolding deliver need◌or◌then◌
-    deliver-1 other = rw (← fine-so, passed, ne_eqb (length buffer) (16 * s.instances) other)
+    deliver-1 other count = rw (← fine-so, passed, ne_eqb (length buffer) (16 * s.instances) other)
 
     module _ (long : length buffer ≡ 16 * s.instances) (sound : Bool) (sound-so : sound ≡ all_possible s.acceptors (cells s t)) where
-      pub deliver-17 : sound ≡ false → unchanged buffer count 17 ≡ deliver s t buffer count
+      pub deliver-17 : sound ≡ false → (count : ℕ) → unchanged buffer count 17 ≡ deliver s t buffer count
       unfolding deliver need◌or◌then◌
-      deliver-17 impossible = rw (← fine-so, passed, eq-eqb (length buffer) (16 * s.instances) long, ← sound-so, impossible)
+      deliver-17 impossible count = rw (← fine-so, passed, eq-eqb (length buffer) (16 * s.instances) long, ← sound-so, impossible)
 
-      pub deliver-done : sound ≡ true → (answer : ℕ) (left : Lent ℕ) → answer ≡ verdict_number Done
-          → left ≡ written_to buffer (delivered s.acceptors (cells s t)) → outcome answer left ≡ deliver s t buffer count
+      pub deliver-done : sound ≡ true → (left : Lent ℕ) → left ≡ written_to buffer (delivered s.acceptors (cells s t))
+          → (count : ℕ) → outcome (verdict_number Done) left ≡ deliver s t buffer count
       unfolding deliver need◌or◌then◌
-      deliver-done possible answer left answer-so left_so =
-          ap (λ n. outcome n left) answer-so ∙ ap (outcome (verdict_number Done)) left_so
+      deliver-done possible left left_so count =
+          ap (outcome (verdict_number Done)) left_so
           ∙ rw (← fine-so, passed, eq-eqb (length buffer) (16 * s.instances) long, ← sound-so, possible)

@@ -1,12 +1,14 @@
 -- Delivery: the values of instances 0, 1, .. before the first undecided one.
 -- Assumes nothing.
-use Rattle.std.specs.Prelude.{ℕ, ◌*◌, List, [], ◌∷◌, ◌++◌, eqb, length}
+use Rattle.std.specs.Prelude.{ℕ, ◌*◌, List, [], ◌∷◌, ◌++◌, eqb, length, Result, Ok, Err}
 use Rattle.numbers.specs.BigEndian.{to_bytes}
 use Rattle.numbers.specs.Fronts.{with_front}
+use Rattle.basics.specs.declared.Refusal.{Refusal}
 use Rattle.basics.specs.declared.Value.{Value}
 use Rattle.basics.specs.declared.Verdict.TheVariants.{Done}
 use Rattle.basics.specs.Ladder.{when◌then◌else◌, need◌or◌then◌}
 use Rattle.basics.specs.Outcome.{Outcome, outcome, Lent, lent}
+use Rattle.basics.specs.Refusal.{refusal_number}
 use Rattle.basics.specs.Verdict.{verdict_number}
 use Rattle.player.specs.Step.{unchanged}
 use Rattle.quorum.specs.declared.Settings.{Settings}
@@ -35,3 +37,8 @@ deliver s t buffer count =
     need eqb (length buffer) (16 * s.instances) or unchanged buffer count 1 then
     need all_possible s.acceptors (cells s t) or unchanged buffer count 17 then
     outcome (verdict_number Done) (written_to buffer (delivered s.acceptors (cells s t)))
+
+-- What each answer of the code comes to: the count of values goes over the number lent beside the buffer.
+abbrev pub delivery_of : (buffer : List ℕ) → (count : ℕ) → Result ℕ Refusal → Outcome (Lent ℕ)
+delivery_of buffer count (Ok values) = outcome (verdict_number Done) (lent buffer values)
+delivery_of buffer count (Err refusal) = unchanged buffer count (refusal_number refusal)

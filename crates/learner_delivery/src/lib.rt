@@ -1,44 +1,54 @@
 // What a learner hands on: the values of instances 0, 1, .. before the first undecided one. Every cell is looked at.
 #![tactic(auto)]
 
-ghost use Rattle.std.specs.Prelude.{◌≡◌, ◌*◌, length};
+ghost use Rattle.std.specs.Prelude.{ℕ, ◌≡◌, ◌*◌, length};
 ghost use Rattle.basics.specs.Outcome.{outcome, lent};
 ghost use Rattle.quorum.specs.Settings.{settings};
-ghost use Rattle.learner_tables.specs.Tables.{tables, first_cells};
-ghost use Rattle.learner_delivery.specs.Delivery.{delivered, written_to, deliver};
+ghost use Rattle.learner_tables.specs.Tables.{tables, cells};
+ghost use Rattle.learner_tables.specs.Lent.{tables_shared};
+ghost use Rattle.learner_delivery.specs.Delivery.{delivered, written_to, deliver, delivery_of};
 
-use basics::Verdict;
+use basics::{Refusal, Verdict};
+use learner_tables::SharedTables;
 use quorum::Settings;
 
 // The values of decided instances, each to its place, up to the first undecided one. How many there were is answered.
-fn write_delivered(
-    acceptors: u32,
-    instances: u32,
-    rounds: &[u32],
-    sets: &[u8],
-    values: &[u64],
-    buffer: &mut [u8],
-) -> u32
-    requires { length buffer.old ≡ 16 * instances }
-    ensures { let before = tables rounds.now sets.now values.now in
-        lent buffer.new result ≡ written_to buffer.old (delivered acceptors (first_cells instances before)) }
+fn write_delivered(settings: Settings, tables: &SharedTables<'_>, buffer: &mut [u8]) -> u32
+    requires { length buffer.old ≡ 16 * settings.instances }
+    ensures { let before = tables_shared tables.now in
+        lent buffer.new result ≡ written_to buffer.old (delivered settings.acceptors (cells settings before)) }
 {
-    let mut count = 0;
-    while count < instances {
-        let cell = learner_tables::cell_at(rounds, sets, values, count as usize);
-        if !learner_cell::is_decided(acceptors, cell) {
+    for count in 0..settings.instances {
+        let cell = tables.cell_at(count as usize);
+        if !learner_cell::is_decided(settings.acceptors, cell) {
             return count;
         }
-        let value = learner_cell::value_of(acceptors, cell);
+        let value = learner_cell::value_of(settings.acceptors, cell);
         let place = 16 * (count as usize);
-        numbers::write_u64(buffer, place, value.high);
-        numbers::write_u64(buffer, place + 8, value.low);
-        count += 1;
+        numbers::write(buffer, place, value.high);
+        numbers::write(buffer, place + 8, value.low);
     }
-    count
+    settings.instances
 }
 
-// The count goes out by the number lent, which stays as it was unless the list was delivered.
+// The list is written to the buffer, and the count of its values is answered.
+fn deliver(settings: Settings, tables: &SharedTables<'_>, buffer: &mut [u8]) -> Result<u32, Refusal>
+    ensures { let before = tables_shared tables.now in
+        (count : ℕ) → delivery_of buffer.new count result ≡ deliver settings before buffer.old count }
+{
+    if !tables.are_allowed(settings) {
+        return Err(Refusal::NotAllowed);
+    }
+    if buffer.len() != 16 * (settings.instances as usize) {
+        return Err(Refusal::WrongLength);
+    }
+    if !tables.all_possible(settings.acceptors, settings.instances) {
+        return Err(Refusal::ImpossibleCell);
+    }
+    Ok(write_delivered(settings, tables, buffer))
+}
+
+// The same for C: the count goes out by the number lent, which stays as it was unless the list was delivered.
 #[unsafe(no_mangle)]
 pub extern "C" fn myrthakel_learner_deliver(
     acceptors: u32,
@@ -57,15 +67,16 @@ pub extern "C" fn myrthakel_learner_deliver(
         acceptors,
         instances,
     };
-    if !learner_tables::is_allowed(settings, rounds.len(), sets.len(), values.len()) {
-        return 7;
+    let tables = SharedTables {
+        rounds,
+        sets,
+        values,
+    };
+    match deliver(settings, &tables, buffer) {
+        Ok(delivered) => {
+            *count = delivered;
+            basics::verdict_number(Verdict::Done)
+        }
+        Err(refusal) => basics::refusal_number(refusal),
     }
-    if buffer.len() != 16 * (instances as usize) {
-        return 1;
-    }
-    if !learner_tables::all_possible(acceptors, instances, rounds, sets, values) {
-        return 17;
-    }
-    *count = write_delivered(acceptors, instances, rounds, sets, values, buffer);
-    basics::verdict_number(Verdict::Done)
 }

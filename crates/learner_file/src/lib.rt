@@ -4,12 +4,14 @@
 
 ghost use Rattle.std.specs.Prelude.{◌≡◌};
 ghost use Rattle.quorum.specs.Settings.{settings};
-ghost use Rattle.learner_tables.specs.Tables.{tables, with_cell, first_cells, all_possible};
+ghost use Rattle.learner_tables.specs.Tables.{with_cell, first_cells, all_possible};
+ghost use Rattle.learner_tables.specs.Lent.{tables_shared, tables_behind, SameReferences};
 ghost use Rattle.learner_file.specs.File.{saved_length, header, marked, version_in, same_settings};
 ghost use Rattle.learner_file.specs.File.{saved_cell, saved_from, with_bytes, with_cell_bytes, stored_from};
 
 use basics::{Round, Value};
 use learner_cell::Cell;
+use learner_tables::{SharedTables, Tables};
 use quorum::Settings;
 
 pub const HEADER_LENGTH: usize = 8;
@@ -34,31 +36,31 @@ pub fn put_header(buffer: &mut [u8], version: u16, acceptors: u8, instances: u16
     buffer[0] = b'R';
     buffer[1] = b'D';
     buffer[2] = b'T';
-    numbers::write_u16(buffer, 3, version);
+    numbers::write(buffer, 3, version);
     buffer[5] = acceptors;
-    numbers::write_u16(buffer, 6, instances);
+    numbers::write(buffer, 6, instances);
 }
 
 pub fn is_marked(saved: &[u8]) -> bool
     ensures { result ≡ marked saved.now }
 {
-    (columns::byte_at(saved, 0) == b'R')
-        & (columns::byte_at(saved, 1) == b'D')
-        & (columns::byte_at(saved, 2) == b'T')
+    (columns::item_at(saved, 0, 0) == b'R')
+        & (columns::item_at(saved, 1, 0) == b'D')
+        & (columns::item_at(saved, 2, 0) == b'T')
 }
 
 pub fn version_in(saved: &[u8]) -> u16
     ensures { result ≡ version_in saved.now }
 {
-    numbers::read_u16(saved, 3)
+    numbers::read::<u16>(saved, 3)
 }
 
 // The saved table's M and N are the lent one's.
 pub fn same_settings(settings: Settings, saved: &[u8]) -> bool
     ensures { result ≡ same_settings settings saved.now }
 {
-    ((columns::byte_at(saved, 5) as u32) == settings.acceptors)
-        & ((numbers::read_u16(saved, 6) as u32) == settings.instances)
+    ((columns::item_at(saved, 5, 0) as u32) == settings.acceptors)
+        & ((numbers::read::<u16>(saved, 6) as u32) == settings.instances)
 }
 
 // ---- one cell
@@ -70,10 +72,10 @@ fn put_cell(buffer: &mut [u8], index: u32, cell: Cell)
     if buffer.len() < at + CELL_LENGTH {
         return;
     }
-    numbers::write_u32(buffer, at, cell.round.0);
+    numbers::write(buffer, at, cell.round.0);
     buffer[at + 4] = cell.set;
-    numbers::write_u64(buffer, at + 5, cell.value.high);
-    numbers::write_u64(buffer, at + 13, cell.value.low);
+    numbers::write(buffer, at + 5, cell.value.high);
+    numbers::write(buffer, at + 13, cell.value.low);
 }
 
 fn cell_in(saved: &[u8], index: u32) -> Cell
@@ -81,11 +83,11 @@ fn cell_in(saved: &[u8], index: u32) -> Cell
 {
     let at = saved_length(index);
     Cell {
-        round: Round(numbers::read_u32(saved, at)),
-        set: columns::byte_at(saved, at + 4),
+        round: Round(numbers::read::<u32>(saved, at)),
+        set: columns::item_at(saved, at + 4, 0),
         value: Value {
-            high: numbers::read_u64(saved, at + 5),
-            low: numbers::read_u64(saved, at + 13),
+            high: numbers::read::<u64>(saved, at + 5),
+            low: numbers::read::<u64>(saved, at + 13),
         },
     }
 }
@@ -93,12 +95,12 @@ fn cell_in(saved: &[u8], index: u32) -> Cell
 // ---- so many cells
 
 // The first cells of the tables, behind the header.
-pub fn put_cells(buffer: &mut [u8], count: u32, rounds: &[u32], sets: &[u8], values: &[u64])
-    ensures { let before = tables rounds.now sets.now values.now in
+pub fn put_cells(buffer: &mut [u8], count: u32, tables: &SharedTables<'_>)
+    ensures { let before = tables_shared tables.now in
         buffer.new ≡ stored_from with_cell_bytes buffer.old 0 (first_cells count before) }
 {
     for index in 0..count {
-        let cell = learner_tables::cell_at(rounds, sets, values, index as usize);
+        let cell = tables.cell_at(index as usize);
         put_cell(buffer, index, cell);
     }
 }
@@ -117,19 +119,13 @@ pub fn saved_possible(acceptors: u32, count: u32, saved: &[u8]) -> bool
 }
 
 // The first cells of the tables become the saved ones, unjudged.
-pub fn store_saved(
-    rounds: &mut [u32],
-    sets: &mut [u8],
-    values: &mut [u64],
-    count: u32,
-    saved: &[u8],
-)
-    ensures { let before = tables rounds.old sets.old values.old in
-        let after = tables rounds.new sets.new values.new in
-        after ≡ stored_from with_cell before 0 (saved_from saved.now 0 count) }
+pub fn store_saved(tables: &mut Tables<'_>, count: u32, saved: &[u8])
+    ensures stored { let before = tables_behind tables.old in
+        tables_behind tables.new ≡ stored_from with_cell before 0 (saved_from saved.now 0 count) }
+    ensures same_references { SameReferences tables.old tables.new }
 {
     for index in 0..count {
         let cell = cell_in(saved, index);
-        learner_tables::store_cell(rounds, sets, values, index as usize, cell);
+        tables.store_cell(index as usize, cell);
     }
 }

@@ -21,9 +21,8 @@ use Rattle.learner_cell.specs.Cell.{is_decided, has_vote}
 use Rattle.columns.specs.Walks.{cells_from}
 use Rattle.columns.proofs.Walks.{here-or-elsewhere}
 use Rattle.learner_tables.specs.Tables.{Tables, cell_at, cells, all_possible}
-use Rattle.learner_holes.specs.declared.Hole.{Hole}
-use Rattle.learner_holes.specs.declared.Hole.TheVariants as holes
-use Rattle.learner_holes.specs.Holes.{decided_end_from, decided_end, is_hole, first_hole_from, first_hole, find_hole, answered}
+use Rattle.learner_holes.specs.Holes as holes
+use Rattle.learner_holes.specs.Holes.{Hole, decided_end_from, decided_end, is_hole, first_hole_from, first_hole, find_hole, answered}
 use Rattle.learner_holes.specs.Promises.{BelowDecided, HoleAt, HoleIff, Least, LeastHole, numbers, HolePromises}
 
 -- ---- the walk finds the first instance that passes the test

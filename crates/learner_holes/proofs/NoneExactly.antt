@@ -10,9 +10,8 @@ use Rattle.basics.proofs.Ladder.{by-test, or_left, or_right, or_cases}
 use Rattle.columns.specs.Walks.{cells_from}
 use Rattle.learner_cell.specs.Cell.{is_decided, has_vote}
 use Rattle.learner_tables.specs.Tables.{Tables, cell_at}
-use Rattle.learner_holes.specs.declared.Hole.{Hole}
-use Rattle.learner_holes.specs.declared.Hole.TheVariants as holes
-use Rattle.learner_holes.specs.Holes.{first_hole}
+use Rattle.learner_holes.specs.Holes as holes
+use Rattle.learner_holes.specs.Holes.{Hole, first_hole}
 use Rattle.learner_holes.specs.Promises.{BelowDecided, HoleAt, Least, Gap, SmallestGap, OnlyNoneChanges, AllDecided, NoneExactly}
 use Rattle.learner_holes.proofs.LeastHole.{under-decided, least-hole}
 

@@ -3,22 +3,17 @@
 use Prim.Native.Nat.{ℕ, ◌+◌, ◌≤◌, ◌<◌}
 use mathlib.Core.Path.{◌≡◌, sym, ap, ◌∙◌}
 use mathlib.Core.Bool.{Bool, true, false}
-use Rattle.basics.specs.declared.Verdict.TheVariants.{Done, NoHole}
 use Rattle.basics.specs.Ladder.{when◌then◌else◌, need◌or◌then◌}
 use Rattle.basics.specs.Rounds.{the_instance}
 use Rattle.basics.proofs.Ladder.{if-true, if-false}
-use Rattle.basics.specs.Verdict.{verdict_number}
-use Rattle.basics.specs.declared.Instance.{Instance}
 use Rattle.quorum.specs.declared.Settings.{Settings}
 use Rattle.learner_cell.specs.declared.Cell.{Cell}
 use Rattle.learner_cell.specs.Cell.{is_decided}
-use Rattle.basics.specs.Outcome.{outcome}
 use Rattle.columns.specs.Walks.{cells_from}
 use Rattle.learner_tables.specs.Tables.{Tables, cells, learner_allowed, all_possible}
 use Rattle.columns.proofs.Walks.{cells_left, cells-all, cells-next, cells-end}
-use Rattle.learner_holes.specs.declared.Hole.{Hole}
-use Rattle.learner_holes.specs.declared.Hole.TheVariants as holes
-use Rattle.learner_holes.specs.Holes.{decided_end_from, decided_end, is_hole, first_hole_from, first_hole, find_hole, answered}
+use Rattle.learner_holes.specs.Holes as holes
+use Rattle.learner_holes.specs.Holes.{Hole, decided_end_from, decided_end, is_hole, first_hole_from, first_hole, find_hole}
 
 module _ (M end : ℕ) (at : (index : ℕ) → Cell) (number count : ℕ) where
   module _ (inside : number < count) (c : Cell) (c-so : c ≡ at number) where
@@ -73,16 +68,3 @@ module _ (s : Settings) (t : Tables) (fine : Bool) (fine-so : fine ≡ learner_a
     pub hole-walked : sound ≡ true → (r : Hole) → r ≡ first_hole s.acceptors (cells s t) → r ≡ find_hole s t
     unfolding find_hole need◌or◌then◌
     hole-walked possible r r-so = rw (← fine-so, passed, ← sound-so, possible, r-so)
-
-module _ (before : ℕ) (h : Hole) (number : ℕ) where
-  pub answered-found : (i : Instance) → h ≡ holes.Found i → number ≡ verdict_number Done → outcome number i.0 ≡ answered before h
-  unfolding answered
-  answered-found i h-so number-so = rw (h-so, number-so)
-
-  pub answered-no-hole : h ≡ holes.NoHole → number ≡ verdict_number NoHole → outcome number before ≡ answered before h
-  unfolding answered
-  answered-no-hole h-so number-so = rw (h-so, number-so)
-
-  pub answered-refused : h ≡ holes.Refused number → outcome number before ≡ answered before h
-  unfolding answered
-  answered-refused h-so = rw h-so

@@ -9,9 +9,8 @@ use Rattle.player.specs.Promises.{OneOf}
 use Rattle.quorum.specs.declared.Settings.{Settings}
 use Rattle.learner_cell.specs.Cell.{is_decided, has_vote}
 use Rattle.learner_tables.specs.Tables.{Tables, cell_at, first_cells}
-use Rattle.learner_holes.specs.declared.Hole.{Hole}
-use Rattle.learner_holes.specs.declared.Hole.TheVariants as holes
-use Rattle.learner_holes.specs.Holes.{decided_end, is_hole, first_hole, find_hole, answered}
+use Rattle.learner_holes.specs.Holes as holes
+use Rattle.learner_holes.specs.Holes.{Hole, decided_end, is_hole, first_hole, find_hole, answered}
 
 -- Below a decided instance, and so below the highest.
 pub record BelowDecided (M N : ℕ) (t : Tables) (number : ℕ) : Type 0 where

@@ -52,14 +52,14 @@ module _ (s : Settings) (bytes : List ℕ) (t : Tables) (fine : Bool) (fine-so :
         unfolding save need◌or◌then◌
         save-17 fails = rw (fine-is, whole_is, ← possible-so, fails)
 
-        pub saves : possible ≡ true → (headed left : List ℕ) (answer : ℕ) → headed ≡ with_bytes bytes 0 (header version s)
-            → left ≡ stored_from with_cell_bytes headed 0 (cells s t) → answer ≡ verdict_number Done → outcome answer (lent left t) ≡ save s bytes t
+        pub saves : possible ≡ true → (headed left : List ℕ) → headed ≡ with_bytes bytes 0 (header version s)
+            → left ≡ stored_from with_cell_bytes headed 0 (cells s t) → outcome (verdict_number Done) (lent left t) ≡ save s bytes t
         unfolding save need◌or◌then◌ saved_table
-        saves judged headed left answer headed-so left_so answer-so =
+        saves judged headed left headed-so left_so =
             let many = length-cells (cell_at t) 0 s.instances in
             let saved : left ≡ header version s ++ cells_bytes (cells s t) =
             left_so ∙ ap (λ b. stored_from with_cell_bytes b 0 (cells s t)) headed-so ∙ file-stored version s bytes s.instances (whole ∙ long-so) (cells s t) many in
-            rw (fine-is, whole_is, ← possible-so, judged, answer-so, saved)
+            rw (fine-is, whole_is, ← possible-so, judged, saved)
 
     -- ---- reading
 
@@ -108,11 +108,11 @@ module _ (s : Settings) (bytes : List ℕ) (t : Tables) (fine : Bool) (fine-so :
               unfolding read_saved need◌or◌then◌
               read-17 fails = rw (fine-is, holds-is, mark-is, version-is, like_is, all-is, ← possible-so, fails)
 
-              pub reads : possible ≡ true → (left : Tables) (answer : ℕ) → left ≡ stored_from with_cell t 0 (saved_cells s bytes) → answer ≡ verdict_number Done
-                  → outcome answer (lent bytes left) ≡ read_saved s bytes t
+              pub reads : possible ≡ true → (left : Tables) → left ≡ stored_from with_cell t 0 (saved_cells s bytes)
+                  → outcome (verdict_number Done) (lent bytes left) ≡ read_saved s bytes t
               unfolding read_saved need◌or◌then◌
-              reads judged left answer left_so answer-so =
+              reads judged left left_so =
                   let many = length-cells (saved_cell bytes) 0 s.instances in
                   let replaced : left ≡ tables_of (saved_cells s bytes) =
                   left_so ∙ tables-stored s.instances t (allowed-tables s t fine-is).sized (saved_cells s bytes) many in
-                  rw (fine-is, holds-is, mark-is, version-is, like_is, all-is, ← possible-so, judged, answer-so, replaced)
+                  rw (fine-is, holds-is, mark-is, version-is, like_is, all-is, ← possible-so, judged, replaced)

@@ -2,16 +2,45 @@
 #![tactic(auto)]
 
 ghost use Rattle.std.specs.Prelude.{◌≡◌};
+ghost use Rattle.basics.specs.Answer.{answer_number};
 ghost use Rattle.basics.specs.Outcome.{outcome, lent};
 ghost use Rattle.quorum.specs.Settings.{settings};
 ghost use Rattle.learner_tables.specs.Tables.{tables};
+ghost use Rattle.learner_tables.specs.Lent.{tables_shared, tables_behind, SameReferences};
 ghost use Rattle.learner_saved.specs.Saved.{save, read_saved};
 
-use basics::Verdict;
+use basics::{Answer, Refusal, Verdict};
+use learner_tables::{SharedTables, Tables};
 use quorum::Settings;
 
 const VERSION: u16 = 1;
 
+// ---- saving
+
+fn save(settings: Settings, tables: &SharedTables<'_>, buffer: &mut [u8]) -> Answer
+    ensures { let before = tables_shared tables.now in
+        outcome (answer_number result) (lent buffer.new before) ≡ save settings buffer.old before }
+{
+    if !tables.are_allowed(settings) {
+        return Err(Refusal::NotAllowed);
+    }
+    if buffer.len() != learner_file::saved_length(settings.instances) {
+        return Err(Refusal::WrongLength);
+    }
+    if !tables.all_possible(settings.acceptors, settings.instances) {
+        return Err(Refusal::ImpossibleCell);
+    }
+    learner_file::put_header(
+        buffer,
+        VERSION,
+        settings.acceptors as u8,
+        settings.instances as u16,
+    );
+    learner_file::put_cells(buffer, settings.instances, tables);
+    Ok(Verdict::Done)
+}
+
+// The same for C, which lends each column by itself and is answered a number.
 #[unsafe(no_mangle)]
 pub extern "C" fn myrthakel_learner_save(
     acceptors: u32,
@@ -28,21 +57,48 @@ pub extern "C" fn myrthakel_learner_save(
         acceptors,
         instances,
     };
-    if !learner_tables::is_allowed(settings, rounds.len(), sets.len(), values.len()) {
-        return 7;
-    }
-    if buffer.len() != learner_file::saved_length(instances) {
-        return 1;
-    }
-    if !learner_tables::all_possible(acceptors, instances, rounds, sets, values) {
-        return 17;
-    }
-    learner_file::put_header(buffer, VERSION, acceptors as u8, instances as u16);
-    learner_file::put_cells(buffer, instances, rounds, sets, values);
-    basics::verdict_number(Verdict::Done)
+    let tables = SharedTables {
+        rounds,
+        sets,
+        values,
+    };
+    basics::answer_number(save(settings, &tables, buffer))
 }
 
+// ---- reading
+
 // Every saved cell is judged before the first is stored.
+fn read_saved(settings: Settings, saved: &[u8], tables: &mut Tables<'_>) -> Answer
+    ensures replaced { let left = lent saved.now (tables_behind tables.new) in
+        outcome (answer_number result) left ≡ read_saved settings saved.now (tables_behind tables.old) }
+    ensures same_references { SameReferences tables.old tables.new }
+{
+    if !tables.are_allowed(settings) {
+        return Err(Refusal::NotAllowed);
+    }
+    if saved.len() < learner_file::HEADER_LENGTH {
+        return Err(Refusal::WrongLength);
+    }
+    if !learner_file::is_marked(saved) {
+        return Err(Refusal::WrongMark);
+    }
+    if learner_file::version_in(saved) != VERSION {
+        return Err(Refusal::WrongVersion);
+    }
+    if !learner_file::same_settings(settings, saved) {
+        return Err(Refusal::NotAllowed);
+    }
+    if saved.len() != learner_file::saved_length(settings.instances) {
+        return Err(Refusal::WrongLength);
+    }
+    if !learner_file::saved_possible(settings.acceptors, settings.instances, saved) {
+        return Err(Refusal::ImpossibleCell);
+    }
+    learner_file::store_saved(tables, settings.instances, saved);
+    Ok(Verdict::Done)
+}
+
+// The same for C.
 #[unsafe(no_mangle)]
 pub extern "C" fn myrthakel_learner_read_saved(
     acceptors: u32,
@@ -60,27 +116,10 @@ pub extern "C" fn myrthakel_learner_read_saved(
         acceptors,
         instances,
     };
-    if !learner_tables::is_allowed(settings, rounds.len(), sets.len(), values.len()) {
-        return 7;
-    }
-    if saved.len() < learner_file::HEADER_LENGTH {
-        return 1;
-    }
-    if !learner_file::is_marked(saved) {
-        return 2;
-    }
-    if learner_file::version_in(saved) != VERSION {
-        return 3;
-    }
-    if !learner_file::same_settings(settings, saved) {
-        return 7;
-    }
-    if saved.len() != learner_file::saved_length(instances) {
-        return 1;
-    }
-    if !learner_file::saved_possible(acceptors, instances, saved) {
-        return 17;
-    }
-    learner_file::store_saved(rounds, sets, values, instances, saved);
-    basics::verdict_number(Verdict::Done)
+    let mut tables = Tables {
+        rounds,
+        sets,
+        values,
+    };
+    basics::answer_number(read_saved(settings, saved, &mut tables))
 }

@@ -3,16 +3,18 @@
 use Prim.Native.Nat.{◌≤◌, ◌-◌}
 use mathlib.Core.Path.{◌≡◌}
 use lib.ListN.{length}
-use Rattle.learner_tables.specs.Tables.{tables, first_cells}
+use Rattle.learner_tables.specs.Tables.{cells}
+use Rattle.learner_tables.specs.Lent.{tables_shared}
 use Rattle.learner_delivery.specs.Delivery.{delivered}
 use Rattle.learner_delivery.proofs.Ways.{written, split}
 use Rattle.learner_delivery.proofs.write_delivered.Given as goal
 
 abbrev pub invariant-loop-count : goal.invariant-loop-count
 invariant-loop-count l =
-    let t = tables l.rounds l.sets l.values in
-    (l.count ≤ l.instances) × ((length l.buffer ≡ length l.initial.buffer) × ((l.buffer ≡ written l.acceptors l.initial.buffer t l.count)
-    × (delivered l.acceptors (first_cells l.instances t) ≡ split l.acceptors t l.count l.instances)))
+    let t = tables_shared l.tables in
+    let s = l.settings in
+    (l.count ≤ s.instances) × ((length l.buffer ≡ length l.initial.buffer) × ((l.buffer ≡ written s.acceptors l.initial.buffer t l.count)
+    × (delivered s.acceptors (cells s t) ≡ split s.acceptors t l.count s.instances)))
 
 abbrev pub decreases-loop-count : goal.decreases-loop-count
-decreases-loop-count l = l.instances - l.count
+decreases-loop-count l = l.settings.instances - l.count

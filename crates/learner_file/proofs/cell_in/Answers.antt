@@ -6,4 +6,4 @@ use Rattle.learner_file.proofs.cell_in.Goals as goal
 pub returns : goal.returns
 unfolding cell_in
 returns c =
-    rw (c.read_u64-2.ensures, c.read_u64.ensures, c.byte_at.ensures, c.read_u32.ensures, c.saved_length-at.ensures)
+    rw (c.read-3.ensures, c.read-2.ensures, c.item_at.ensures, c.read.ensures, c.saved_length-at.ensures)

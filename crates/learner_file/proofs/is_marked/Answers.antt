@@ -5,4 +5,4 @@ use Rattle.learner_file.proofs.is_marked.Goals as goal
 
 pub returns : goal.returns
 unfolding marked
-returns c = rw (c.byte_at.ensures, c.byte_at-2.ensures, c.byte_at-3.ensures)
+returns c = rw (c.item_at.ensures, c.item_at-2.ensures, c.item_at-3.ensures)

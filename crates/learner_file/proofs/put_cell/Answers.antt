@@ -11,10 +11,10 @@ returns-then-buffer-at c = cell-not-put _ _ _ _ c.saved_length-at.ensures c.if-b
 
 pub shape_of-buffer : goal.shape_of-buffer
 shape_of-buffer c =
-    omega (arith, length-set c.write_u32.new.bytes (c.saved_length-at.result + 4) c.args.cell.set)
+    omega (arith, length-set c.write.new.bytes (c.saved_length-at.result + 4) c.args.cell.set)
 
 pub returns : goal.returns
 returns c =
     let start = c.args in
-    rw (c.write_u64-2.ensures, c.write_u64.ensures, c.write_u32.ensures)
+    rw (c.write-3.ensures, c.write-2.ensures, c.write.ensures)
     (cell-put start.cell start.buffer.now _ _ c.saved_length-at.ensures c.if-buffer-at.false)

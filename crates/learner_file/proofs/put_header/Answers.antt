@@ -21,10 +21,10 @@ bounds-buffer-5 c = omega (arith, length-sets c.args.buffer.now 0 mark)
 
 pub shape_of-buffer : goal.shape_of-buffer
 shape_of-buffer c =
-    omega (arith, length-sets c.args.buffer.now 0 mark, length-set c.write_u16.new.bytes 5 c.args.acceptors)
+    omega (arith, length-sets c.args.buffer.now 0 mark, length-set c.write.new.bytes 5 c.args.acceptors)
 
 pub returns : goal.returns
 returns c =
     let start = c.args in
-    rw (c.write_u16-2.ensures, c.write_u16.ensures)
+    rw (c.write-2.ensures, c.write.ensures)
     (header-put start.version start.acceptors start.instances start.buffer.now c.if-buffer-lt-HEADER_LENGTH.false)

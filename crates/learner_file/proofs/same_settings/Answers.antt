@@ -5,4 +5,4 @@ use Rattle.learner_file.proofs.same_settings.Goals as goal
 
 pub returns : goal.returns
 unfolding same_settings
-returns c = rw (c.byte_at.ensures, c.read_u16.ensures)
+returns c = rw (c.item_at.ensures, c.read.ensures)

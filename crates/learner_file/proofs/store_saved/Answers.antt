@@ -8,7 +8,7 @@ use Rattle.learner_file.proofs.Ways.{store-first, store-next, store-ends}
 use Rattle.learner_file.proofs.store_saved.Goals as goal
 
 pub loop-index-init : goal.loop-index-init
-loop-index-init c = (omega arith, (refl, (refl, (refl, store-first _ _ _ _))))
+loop-index-init c = (omega arith, ((refl, refl, refl), store-first _ _ _ _))
 
 pub loop-index-smaller : goal.loop-index-smaller
 loop-index-smaller c = omega arith
@@ -18,25 +18,10 @@ loop-index-preserved c = (
   omega arith,
   (
     search rules,
-    (
-      search rules,
-      (
-        search rules,
-        c.loop-index.invariant.1.1.1.1
-            ∙ store-next with_cell _ _ _ _ c.loop-index-test.true _ c.cell_in-cell.ensures _ c.store_cell.ensures,
-      ),
-    ),
+    c.loop-index.invariant.1.1
+        ∙ store-next with_cell _ _ _ _ c.loop-index-test.true _ c.cell_in-cell.ensures _ c.store_cell.ensures.stored,
   ),
 )
 
-pub shape_of-rounds : goal.shape_of-rounds
-shape_of-rounds c = c.loop-index.invariant.1.0
-
-pub shape_of-sets : goal.shape_of-sets
-shape_of-sets c = c.loop-index.invariant.1.1.0
-
-pub shape_of-values : goal.shape_of-values
-shape_of-values c = c.loop-index.invariant.1.1.1.0
-
-pub returns : goal.returns
-returns c = sym (c.loop-index.invariant.1.1.1.1 ∙ store-ends with_cell _ _ _ _ c.loop-index-test.false)
+pub returns-clause-stored : goal.returns-clause-stored
+returns-clause-stored c = sym (c.loop-index.invariant.1.1 ∙ store-ends with_cell _ _ _ _ c.loop-index-test.false)

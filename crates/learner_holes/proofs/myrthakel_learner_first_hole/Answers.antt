@@ -1,15 +1,21 @@
 -- `learner_holes::myrthakel_learner_first_hole` meets its contract: each arm knows the answer, and leaves what that says.
 -- Assumes nothing.
-use mathlib.Core.Path.{ap, ◌∙◌}
-use Rattle.learner_holes.specs.Holes.{answered}
-use Rattle.learner_holes.proofs.Ways.{answered-found, answered-no-hole, answered-refused}
+use Rattle.std.proofs.Common.{Ok, sym, ap, ◌∙◌}
+use Rattle.learner_holes.specs.Holes.{hole_of, answered}
 use Rattle.learner_holes.proofs.myrthakel_learner_first_hole.Goals as goal
 
-pub returns-in-Found : goal.returns-in-Found
-returns-in-Found c = answered-found _ _ _ _ c.in-Found.is c.verdict_number.ensures ∙ ap (answered _) c.find_hole.ensures
+pub returns-in-Ok-Some : goal.returns-in-Ok-Some
+unfolding answered
+returns-in-Ok-Some c =
+    let said = ap hole_of (c.in-Ok-Some.is ∙ ap Ok c.in-Ok-Some.field-0-is) in
+    rw c.verdict_number.ensures (ap (answered _) (sym said ∙ c.find_hole.ensures))
 
-pub returns-in-NoHole : goal.returns-in-NoHole
-returns-in-NoHole c = answered-no-hole _ _ _ c.in-NoHole.is c.verdict_number-in-NoHole.ensures ∙ ap (answered _) c.find_hole.ensures
+pub returns-in-Ok-None : goal.returns-in-Ok-None
+unfolding answered
+returns-in-Ok-None c =
+    let said = ap hole_of (c.in-Ok-None.is ∙ ap Ok c.in-Ok-None.field-0-is) in
+    rw c.verdict_number-in-Ok-None.ensures (ap (answered _) (sym said ∙ c.find_hole.ensures))
 
-pub returns-in-Refused : goal.returns-in-Refused
-returns-in-Refused c = answered-refused _ _ _ c.in-Refused.is ∙ ap (answered _) c.find_hole.ensures
+pub returns-in-Err : goal.returns-in-Err
+unfolding answered
+returns-in-Err c = rw c.refusal_number.ensures (ap (answered _) (sym (ap hole_of c.in-Err.is) ∙ c.find_hole.ensures))
