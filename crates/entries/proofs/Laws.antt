@@ -9,8 +9,7 @@ use lib.ListN.{length}
 use borrow.Author.Tests.{leb-true}
 use Rattle.basics.proofs.Ladder.{if-elim, need-elim, both_true}
 use Rattle.entries.specs.declared.Fields.{Fields}
-use Rattle.entries.specs.declared.Entry.{Entry}
-use Rattle.entries.specs.declared.Entry.TheVariants.{Null, Malformed, Sale, Boarding}
+use Rattle.entries.specs.Entry.{Entry, Null, Malformed, Sale, Boarding}
 use Rattle.entries.specs.Entry.{entry_length, most_rides, fields_in, is_null, is_sale, is_boarding, entry_of, entry_in}
 
 unfoldable pub FewRides : Entry → Type 0

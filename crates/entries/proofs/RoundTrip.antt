@@ -13,8 +13,7 @@ use Rattle.numbers.proofs.Bytes.{big_endian-to_bytes, to_bytes-number_at, number
 use Rattle.basics.specs.Ladder.{when◌then◌else◌, need◌or◌then◌}
 use Rattle.basics.proofs.Ladder.{if-elim, need-elim, both_true}
 use Rattle.entries.specs.declared.Fields.{Fields}
-use Rattle.entries.specs.declared.Entry.{Entry}
-use Rattle.entries.specs.declared.Entry.TheVariants.{Null, Malformed, Sale, Boarding}
+use Rattle.entries.specs.Entry.{Entry, Null, Malformed, Sale, Boarding}
 use Rattle.entries.specs.Entry.{entry_length, most_rides, fields, fields_in, is_null, is_sale, is_boarding, entry_of, entry_in, field_bytes, entry_bytes}
 use Rattle.entries.specs.Promises.{WellFormed, WriteThenRead, ReadThenWrite}
 

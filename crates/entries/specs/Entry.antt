@@ -1,11 +1,18 @@
 -- An entry of the ride ledger: "A value is: kind (1 sale, 2 boarding), rides, pass (4 bytes), day (2), scan (4), four zero bytes, big-endian."
 -- Assumes nothing.
-use Rattle.std.specs.Prelude.{ℕ, Bool, ◌&&◌, List, [], ◌∷◌, ◌++◌, eqb, leb, length, get_or}
+use Rattle.std.specs.Prelude.{ℕ, Option, Some, None, Bool, ◌&&◌, List, [], ◌∷◌, ◌++◌, eqb, leb, length, get_or}
 use Rattle.numbers.specs.BigEndian.{number_at, to_bytes}
 use Rattle.basics.specs.Ladder.{when◌then◌else◌, need◌or◌then◌}
 use Rattle.entries.specs.declared.Fields.{Fields}
-use Rattle.entries.specs.declared.Entry.{Entry}
-use Rattle.entries.specs.declared.Entry.TheVariants.{Null, Malformed, Sale, Boarding}
+use Rattle.entries.specs.declared.Entry as code
+use Rattle.entries.specs.declared.Entry.TheVariants as well_formed
+
+-- What the bytes of a value say.
+pub data Entry : Type 0 where
+  Null : Entry
+  Malformed : Entry
+  Sale : (pass rides last_day : ℕ) → Entry
+  Boarding : (pass day scan : ℕ) → Entry
 
 -- 1 + 1 + 4 + 2 + 4 + 4
 abbrev pub entry_length : ℕ
@@ -45,6 +52,13 @@ entry_of f =
 -- The entry that bytes are; malformed where they are not 16.
 unfoldable pub entry_in : (value : List ℕ) → Entry
 entry_in value = need eqb (length value) entry_length or Malformed then entry_of (fields_in value)
+
+-- What each answer of the code comes to.
+abbrev pub entry_read : Option code.Entry → Entry
+entry_read (Some well_formed.Null) = Null
+entry_read (Some (well_formed.Sale pass rides last_day)) = Sale pass rides last_day
+entry_read (Some (well_formed.Boarding pass day scan)) = Boarding pass day scan
+entry_read None = Malformed
 
 -- ---- the bytes of an entry
 

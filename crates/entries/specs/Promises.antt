@@ -2,9 +2,7 @@
 -- Assumes nothing.
 use Rattle.std.specs.Prelude.{ℕ, ◌^◌, ◌≤◌, ◌<◌, ◌≡◌, List}
 use Rattle.numbers.specs.BigEndian.{Bytes}
-use Rattle.entries.specs.declared.Entry.{Entry}
-use Rattle.entries.specs.declared.Entry.TheVariants.{Null, Malformed, Sale, Boarding}
-use Rattle.entries.specs.Entry.{most_rides, entry_in, entry_bytes}
+use Rattle.entries.specs.Entry.{Entry, Null, Malformed, Sale, Boarding, most_rides, entry_in, entry_bytes}
 
 -- A sale whose numbers fit, with 1 to 40 rides; a boarding whose numbers fit; or null.
 unfoldable pub WellFormed : Entry → Type 0

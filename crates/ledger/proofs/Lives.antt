@@ -9,7 +9,7 @@ use native.Mathlib.Omega.{arith}
 use lib.Dec.{eqb}
 use lib.ListN.{length}
 use Rattle.basics.proofs.Ladder.{by-test, if-true, if-false}
-use Rattle.entries.specs.declared.Entry.{Entry}
+use Rattle.entries.specs.Entry.{Entry}
 use Rattle.passes.specs.declared.Pass.{Pass}
 use Rattle.passes.specs.Passes.{numbers_of, among}
 use Rattle.ledger_rule.specs.Sums.{left_on}

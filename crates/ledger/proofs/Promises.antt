@@ -14,16 +14,13 @@ use Rattle.basics.specs.Ladder.{when◌then◌else◌, need◌or◌then◌}
 use Rattle.basics.specs.Outcome.{Outcome, outcome}
 use Rattle.basics.proofs.Ladder.{by-test, need-elim, need-passed, need-failed, or_right}
 use Rattle.columns.specs.Walks.{cells_from}
-use Rattle.entries.specs.declared.Entry.{Entry}
-use Rattle.entries.specs.declared.Entry.TheVariants.{Null, Malformed, Sale, Boarding}
-use Rattle.entries.specs.Entry.{entry_in}
+use Rattle.entries.specs.Entry.{Entry, Null, Malformed, Sale, Boarding, entry_in}
 use Rattle.entries.proofs.Laws.{few-rides}
 use Rattle.passes.specs.declared.Pass.{Pass}
 use Rattle.passes.specs.Passes.{Table, pass_at, in_use, holding, most_passes, numbers_of, among, place_of, is_full, sound, Fresh}
 use Rattle.passes.proofs.Laws as laws
 use Rattle.passes.proofs.Laws.{sound-brings, sound-so, in-use-length, holding-in-use, in-use-holding, holding-sound}
-use Rattle.ledger_rule.specs.declared.Boarded.{Boarded}
-use Rattle.ledger_rule.specs.Rule.{sold, opened, sell, board_pass, boarded_at, pass_of, board, rule}
+use Rattle.ledger_rule.specs.Rule.{Boarded, sold, opened, sell, board_pass, boarded_at, pass_of, board, rule}
 use Rattle.ledger_rule.specs.Sums.{is_accepted, is_of, rides_sold, boardings, of_pass, all_left, left_on}
 use Rattle.ledger_rule.specs.Promises.{accepted_of}
 use Rattle.ledger.specs.Ledger.{carried_out, enter, replay, answers, accepted}

@@ -2,9 +2,7 @@
 -- it was sold for; and what the call answers and leaves.
 -- Assumes nothing.
 use Rattle.std.specs.Prelude.{ℕ, ◌+◌, ◌≤◌, ◌<◌, ◌≡◌, true, false, List, [], ◌∷◌, ◌++◌, ◌↔◌, length, take}
-use Rattle.entries.specs.declared.Entry.{Entry}
-use Rattle.entries.specs.declared.Entry.TheVariants.{Sale, Boarding}
-use Rattle.entries.specs.Entry.{entry_in}
+use Rattle.entries.specs.Entry.{Entry, Sale, Boarding, entry_in}
 use Rattle.passes.specs.Passes.{Table, most_passes, numbers_of, in_use, among, sound, Fresh}
 use Rattle.ledger_rule.specs.Rule.{rule_numbers}
 use Rattle.ledger_rule.specs.Sums.{is_accepted, rides_sold, boardings, of_pass, all_left, left_on}

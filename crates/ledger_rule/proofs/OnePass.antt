@@ -12,8 +12,7 @@ use borrow.Author.Tests.{eqb-true, eq-eqb}
 use Rattle.basics.specs.Ladder.{when◌then◌else◌}
 use Rattle.basics.specs.Outcome.{Outcome}
 use Rattle.basics.proofs.Ladder.{by-test, if-true, if-false}
-use Rattle.entries.specs.declared.Entry.{Entry}
-use Rattle.entries.specs.declared.Entry.TheVariants.{Sale, Boarding}
+use Rattle.entries.specs.Entry.{Entry, Sale, Boarding}
 use Rattle.passes.specs.declared.Pass.{Pass}
 use Rattle.passes.specs.Passes.{numbers_of, among}
 use Rattle.passes.proofs.Laws.{or-false}

@@ -7,7 +7,7 @@ use mathlib.Core.List.{List, [], ◌∷◌, ◌++◌}
 use native.Mathlib.Omega.{arith}
 use Rattle.basics.specs.Ladder.{when◌then◌else◌}
 use Rattle.basics.specs.Outcome.{Outcome}
-use Rattle.entries.specs.declared.Entry.{Entry}
+use Rattle.entries.specs.Entry.{Entry}
 use Rattle.passes.specs.declared.Pass.{Pass}
 use Rattle.ledger_rule.specs.Rule.{opened, ride_taken, rule}
 use Rattle.ledger_rule.specs.Sums.{is_accepted, rides_of, boardings_of, rides_sold, boardings, of_pass, all_left}

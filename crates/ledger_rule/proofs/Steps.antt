@@ -13,15 +13,12 @@ use borrow.Author.Tests.{eqb-true, eqb-false, ne_eqb, leb-true, leb-false, le-le
 use Rattle.basics.specs.Outcome.{Outcome, outcome}
 use Rattle.basics.proofs.Ladder.{by-test, need-elim, both_true, and-true}
 use Rattle.columns.specs.Walks.{every}
-use Rattle.entries.specs.declared.Entry.{Entry}
-use Rattle.entries.specs.declared.Entry.TheVariants.{Null, Malformed, Sale, Boarding}
-use Rattle.entries.specs.Entry.{most_rides}
+use Rattle.entries.specs.Entry.{Entry, Null, Malformed, Sale, Boarding, most_rides}
 use Rattle.entries.proofs.Laws.{FewRides}
 use Rattle.passes.specs.declared.Pass.{Pass}
 use Rattle.passes.specs.Passes.{most_passes, numbers_of, among, place_of, twice, rides_fit, lawful, is_full}
 use Rattle.passes.proofs.Laws.{or-false, not_so, place_here, place-later}
-use Rattle.ledger_rule.specs.declared.Boarded.{Boarded}
-use Rattle.ledger_rule.specs.Rule.{sold, boarded, opened, sell, ride_taken, board_pass, boarded_at, pass_of, board, rule, rule_numbers}
+use Rattle.ledger_rule.specs.Rule.{sold, boarded, opened, sell, ride_taken, Boarded, board_pass, boarded_at, pass_of, board, rule, rule_numbers}
 use Rattle.ledger_rule.specs.Sums.{is_accepted}
 
 -- ---- where a number is found

@@ -5,8 +5,7 @@ use mathlib.Core.Path.{◌≡◌}
 use borrow.Author.Tests.{le-leb, lt-leb, lt-ltb, le-ltb}
 use Rattle.basics.specs.Ladder.{need◌or◌then◌}
 use Rattle.passes.specs.declared.Pass.{Pass}
-use Rattle.ledger_rule.specs.declared.Boarded.TheVariants.{Taken, Refused}
-use Rattle.ledger_rule.specs.Rule.{ride_taken, board_pass}
+use Rattle.ledger_rule.specs.Rule.{ride_taken, Taken, Refused, board_pass}
 
 module _ (p : Pass) (day scan : ℕ) where
   pub day-past : p.last_day < day → Refused 35 ≡ board_pass p day scan

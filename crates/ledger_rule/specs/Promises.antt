@@ -2,7 +2,7 @@
 -- Assumes nothing.
 use Rattle.std.specs.Prelude.{ℕ, ◌+◌, ◌≡◌, List, [], ◌∷◌}
 use Rattle.basics.specs.Ladder.{when◌then◌else◌}
-use Rattle.entries.specs.declared.Entry.{Entry}
+use Rattle.entries.specs.Entry.{Entry}
 use Rattle.passes.specs.declared.Pass.{Pass}
 use Rattle.ledger_rule.specs.Rule.{rule}
 use Rattle.ledger_rule.specs.Sums.{is_accepted, rides_sold, boardings, of_pass, all_left, left_on}

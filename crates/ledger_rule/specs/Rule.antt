@@ -1,15 +1,14 @@
 -- The ledger's rule, of an entry and the passes in use. "Refusals, in order: 30 ..; 31 malformed entry; for a sale 32 pass exists, 33 table full; for a
 -- boarding 34 unknown pass, 35 day past, 36 scan not newer, 37 no ride left." 30 is the table's, and told before.
 -- Assumes nothing.
-use Rattle.std.specs.Prelude.{ℕ, ◌-◌, not, List, [], ◌∷◌, ◌++◌, leb, ltb, length, get_or, set}
+use Rattle.std.specs.Prelude.{ℕ, ◌-◌, not, Result, Ok, Err, List, [], ◌∷◌, ◌++◌, leb, ltb, length, get_or, set}
+use Rattle.basics.specs.declared.Refusal.{Refusal}
 use Rattle.basics.specs.Ladder.{need◌or◌then◌}
 use Rattle.basics.specs.Outcome.{Outcome, outcome}
-use Rattle.entries.specs.declared.Entry.{Entry}
-use Rattle.entries.specs.declared.Entry.TheVariants.{Null, Malformed, Sale, Boarding}
+use Rattle.basics.specs.Refusal.{refusal_number}
+use Rattle.entries.specs.Entry.{Entry, Null, Malformed, Sale, Boarding}
 use Rattle.passes.specs.declared.Pass.{Pass}
 use Rattle.passes.specs.Passes.{pass, numbers_of, among, place_of, is_full}
-use Rattle.ledger_rule.specs.declared.Boarded.{Boarded}
-use Rattle.ledger_rule.specs.declared.Boarded.TheVariants.{Taken, Refused}
 
 -- ---- the answers that are no refusals
 
@@ -45,6 +44,11 @@ sell ps number rides last_day =
 abbrev pub ride_taken : Pass → (scan : ℕ) → Pass
 ride_taken p scan = pass p.number (p.rides_left - 1) p.last_day scan
 
+-- What a boarding comes to at its pass: the pass behind it, or the refusal.
+pub data Boarded : Type 0 where
+  Taken : Pass → Boarded
+  Refused : (number : ℕ) → Boarded
+
 -- "it needs .. a ride left, a day not after the last, and a scan number above the last accepted for that pass".
 unfoldable pub board_pass : Pass → (day scan : ℕ) → Boarded
 board_pass p day scan =
@@ -52,6 +56,11 @@ board_pass p day scan =
     need ltb p.last_scan scan or Refused 36 then
     need leb 1 p.rides_left or Refused 37 then
     Taken (ride_taken p scan)
+
+-- What each answer of the code comes to.
+abbrev pub boarded_of : Result Pass Refusal → Boarded
+boarded_of (Ok p) = Taken p
+boarded_of (Err refusal) = Refused (refusal_number refusal)
 
 -- What becomes of the passes: that at the place is the boarded one.
 unfoldable pub boarded_at : List Pass → (place : ℕ) → Boarded → Outcome (List Pass)

@@ -2,8 +2,7 @@
 -- Assumes nothing.
 use Rattle.std.specs.Prelude.{ℕ, ◌+◌, Bool, false, ◌||◌, List, [], ◌∷◌, eqb}
 use Rattle.basics.specs.Ladder.{when◌then◌else◌}
-use Rattle.entries.specs.declared.Entry.{Entry}
-use Rattle.entries.specs.declared.Entry.TheVariants.{Null, Malformed, Sale, Boarding}
+use Rattle.entries.specs.Entry.{Entry, Null, Malformed, Sale, Boarding}
 use Rattle.passes.specs.declared.Pass.{Pass}
 use Rattle.ledger_rule.specs.Rule.{sold, boarded}
 

@@ -12,12 +12,15 @@ use lib.Seq.{length-take-le, drop-cons, set-append_left}
 use borrow.Author.Tests.{eqb-true, eq-eqb, leb-true, le-leb}
 use Rattle.numbers.specs.Fronts.{with_front}
 use Rattle.numbers.proofs.Fronts.{length_front, front-next}
-use Rattle.basics.proofs.Ladder.{by-test, if-true, if-false, both_true, and-true, or_left, or_right}
+use Rattle.std.specs.Prelude.{Option, Some, None}
+use Rattle.std.specs.Option.{is_some}
+use Rattle.basics.specs.Ladder.{when◌then◌else◌}
+use Rattle.basics.proofs.Ladder.{by-test, if-true, if-false, both_true, and-true}
 use Rattle.columns.specs.Walks.{cells_from, every}
 use Rattle.columns.proofs.Walks.{length-cells, cell-of}
 use Rattle.passes.specs.declared.Pass.{Pass}
 use Rattle.passes.specs.Passes.{pass, Columns, columns, Table, table, number_in, pass_at, with_pass, in_use, holding, most_passes, numbers_of, among}
-use Rattle.passes.specs.Passes.{place_of, twice, rides_fit, lawful, is_sized, sized, sound, Fresh}
+use Rattle.passes.specs.Passes.{place_of, find, twice, rides_fit, lawful, is_sized, sized, sound, Fresh}
 
 -- ---- tests
 
@@ -59,19 +62,13 @@ module _ (number n : ℕ) (ns : List ℕ) where
   unfolding place_of
   place-later other = if-false 0 (place_of number ns + 1) other
 
-pub among-found : (number : ℕ) (numbers : List ℕ) → place_of number numbers < length numbers → among number numbers ≡ true
+-- a number that is among these stands at a place of them
+place-below : (number : ℕ) (numbers : List ℕ) → among number numbers ≡ true → place_of number numbers < length numbers
 unfolding among
-among-found number [] low = absurd (omega arith)
-among-found number (n ∷ ns) low =
-    by-test (eqb n number) (or_left (among number ns)) λ other.
-    or_right (eqb n number) (among-found number ns (omega (arith, place-later number n ns other, low)))
-
-pub among-missing : (number : ℕ) (numbers : List ℕ) → length numbers ≤ place_of number numbers → among number numbers ≡ false
-unfolding among
-among-missing number [] high = refl
-among-missing number (n ∷ ns) high =
-    by-test (eqb n number) (λ same. absurd (omega (arith, place_here number n ns same, high))) λ other.
-    rw (other, among-missing number ns (omega (arith, place-later number n ns other, high)))
+place-below number [] known = absurd (true≢false (sym known))
+place-below number (n ∷ ns) known =
+    by-test (eqb n number) (λ same. omega (arith, place_here number n ns same)) λ other.
+    omega (arith, place-later number n ns other, place-below number ns (sym (ap (λ b. b || among number ns) other) ∙ known))
 
 -- ---- one column
 
@@ -183,26 +180,57 @@ lawful-columns c count = λ i.
 pub pass-in-use : (c : Columns) (count place : ℕ) → place < count → pass_at c place ≡ get_or (in_use (table c count)) place (pass 0 0 0 0)
 pass-in-use c count place low = ap (pass_at c) (omega arith) ∙ sym (cell-of (pass_at c) (pass 0 0 0 0) 0 count place low)
 
--- what a search from the first place tells of the passes in use
-module _ (c : Columns) (count number place : ℕ) (place-so : place ≡ 0 + place_of number (cells_from (number_in c.passes) 0 (count - 0))) where
+-- ---- what is found
+
+some-if : (b : Bool) (place : ℕ) → is_some (when b then Some place else None) ≡ b
+unfolding when◌then◌else◌
+some-if true place = refl
+some-if false place = refl
+
+pub some-where-among : (t : Table) (from number : ℕ)
+    → is_some (find t from number) ≡ among number (cells_from (number_in t.columns.passes) from (t.count - from))
+unfolding find
+some-where-among t from number = some-if _ _
+
+-- a pass that is in use at a place, the first with its number
+pub record Known (t : Table) (number place : ℕ) : Type 0 where
+  pub known : among number (numbers_of (in_use t)) ≡ true
+  pub first : place ≡ place_of number (numbers_of (in_use t))
+  pub low : place < t.count
+
+module _ (t : Table) (number : ℕ) where
   abbrev its-numbers : List ℕ
-  its-numbers = numbers_of (in_use (table c count))
+  its-numbers = numbers_of (in_use t)
 
-  pub found_at : place ≡ place_of number its-numbers
-  found_at =
-      let all : count - 0 ≡ count = omega arith in
-      let walked : place_of number (cells_from (number_in c.passes) 0 (count - 0)) ≡ place_of number its-numbers =
-      ap (λ n. place_of number (cells_from (number_in c.passes) 0 n)) all ∙ ap (place_of number) (sym (numbers-in-use c count)) in
-      omega (arith, place-so, walked)
+  abbrev place_or_0 : Option ℕ → ℕ
+  place_or_0 None = 0
+  place_or_0 (Some place) = place
 
-  numbers-length : length its-numbers ≡ count
-  numbers-length = length-map (in_use (table c count)) (λ p. p.number) ∙ in-use-length (table c count)
+  -- found from the first place on is found in the list
+  found-in-use : find t 0 number ≡ (when among number its-numbers then Some (0 + place_of number its-numbers) else None)
+  unfolding find
+  found-in-use =
+      let all : t.count - 0 ≡ t.count = omega arith in
+      let same = ap (cells_from (number_in t.columns.passes) 0) all ∙ sym (numbers-in-use t.columns t.count) in
+      ap (λ ns. when among number ns then Some (0 + place_of number ns) else None) same
 
-  pub found-known : place < count → among number its-numbers ≡ true
-  found-known low = among-found number its-numbers (omega (arith, found_at, numbers-length))
+  pub known-where-found : among number its-numbers ≡ is_some (find t 0 number)
+  known-where-found = sym (ap is_some found-in-use ∙ some-if _ _)
 
-  pub found-unknown : count ≤ place → among number its-numbers ≡ false
-  found-unknown high = among-missing number its-numbers (omega (arith, found_at, numbers-length))
+  pub found-none : find t 0 number ≡ None → among number its-numbers ≡ false
+  found-none nowhere = known-where-found ∙ ap is_some nowhere
+
+  pub found-some : (place : ℕ) → find t 0 number ≡ Some place → Known t number place
+  found-some place there =
+      let known = known-where-found ∙ ap is_some there in
+      let first : place ≡ 0 + place_of number its-numbers =
+      ap place_or_0 (sym there ∙ found-in-use) ∙ ap place_or_0 (if-true (Some (0 + place_of number its-numbers)) None known) in
+      let long = length-map (in_use t) (λ p. p.number) in
+      record {
+        known = known;
+        first = omega (arith, first);
+        low = omega (arith, first, place-below number its-numbers known, long, in-use-length t);
+      }
 
 module _ (c : Columns) (long : Sized c) where
   -- with the passes that are in use a table is as it was

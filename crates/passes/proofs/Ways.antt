@@ -1,65 +1,67 @@
 -- The walks over the numbers of passes, a place at a time, and the ways out of judging a table.
 -- Assumes nothing.
-use Prim.Native.Nat.{ℕ, ◌+◌, ◌-◌, ◌≤◌, ◌<◌}
-use mathlib.Core.Path.{◌≡◌, sym, ◌∙◌}
-use mathlib.Core.Bool.{Bool, true, false}
+use Prim.Native.Nat.{ℕ, ◌+◌, ◌≤◌, ◌<◌}
+use mathlib.Core.Path.{◌≡◌, sym, ap, ◌∙◌}
+use mathlib.Core.Bool.{Bool, true, false, ◌||◌}
+use mathlib.Core.List.{List}
 use native.Mathlib.Omega.{arith}
 use borrow.Author.Tests.{eq-eqb, ne_eqb, le-leb, lt-leb}
+use Rattle.std.specs.Prelude.{Option, Some, None}
+use Rattle.std.specs.Option.{is_some}
 use Rattle.basics.specs.Ladder.{when◌then◌else◌}
 use Rattle.columns.specs.Walks.{cells_from, every}
-use Rattle.columns.proofs.Walks.{cells_left, cells-next, cells-end, length-cells}
-use Rattle.passes.specs.Passes.{Columns, table, number_in, most_passes, among, place_of, twice, rides_fit, sized, sound}
-use Rattle.passes.proofs.Laws.{lawful-columns, among-found, among-missing}
+use Rattle.columns.proofs.Walks.{cells_left, cells-next, cells-end}
+use Rattle.passes.specs.Passes.{Columns, Table, table, number_in, most_passes, among, place_of, find, twice, rides_fit, sized, sound}
+use Rattle.passes.proofs.Laws.{lawful-columns, some-where-among}
 
-module _ (at : (place : ℕ) → ℕ) (number place count : ℕ) where
-  module _ (inside : place < count) (n : ℕ) (n-so : n ≡ at place) where
-    pub found_here : n ≡ number → place + place_of number (cells_left at place count) ≡ place
-    unfolding place_of when◌then◌else◌
-    found_here same =
-        let first : place_of number (cells_left at place count) ≡ 0 = rw (cells-next at place count inside, ← n-so, eq-eqb n number same) in
-        omega (arith, first)
+module _ (t : Table) where
+  abbrev its-numbers : (place : ℕ) → ℕ
+  its-numbers = number_in t.columns.passes
 
-    pub found-later : (n ≡ number → ⊥) → place + place_of number (cells_left at place count) ≡ (place + 1) + place_of number (cells_left at (place + 1) count)
-    unfolding place_of when◌then◌else◌
-    found-later other =
-        let later : place_of number (cells_left at place count) ≡ place_of number (cells_left at (place + 1) count) + 1 =
-        rw (cells-next at place count inside, ← n-so, ne_eqb n number other) in
-        omega (arith, later)
+  module _ (number place : ℕ) where
+    module _ (inside : place < t.count) (n : ℕ) (n-so : n ≡ its-numbers place) where
+      pub found_here : n ≡ number → Some place ≡ find t place number
+      unfolding find among place_of when◌then◌else◌
+      found_here same =
+          let here : find t place number ≡ Some (place + 0) = rw (cells-next its-numbers place t.count inside, ← n-so, eq-eqb n number same) in
+          ap Some (omega arith) ∙ sym here
 
-  pub found_nowhere : count ≤ place → place + place_of number (cells_left at place count) ≡ place
-  unfolding place_of
-  found_nowhere past =
-      let none : place_of number (cells_left at place count) ≡ 0 = rw (cells-end at place count past) in
-      omega (arith, none)
+      pub found-later : (n ≡ number → ⊥) → find t place number ≡ find t (place + 1) number
+      unfolding find among place_of when◌then◌else◌
+      found-later other =
+          let behind = cells_left its-numbers (place + 1) t.count in
+          let next : find t place number ≡ (when among number behind then Some (place + (place_of number behind + 1)) else None) =
+          rw (cells-next its-numbers place t.count inside, ← n-so, ne_eqb n number other) in
+          let on : place + (place_of number behind + 1) ≡ (place + 1) + place_of number behind = omega arith in
+          next ∙ λ i. when among number behind then Some (on i) else None
 
-module _ (at : (place : ℕ) → ℕ) (place count : ℕ) where
-  module _ (inside : place < count) (number : ℕ) (number-so : number ≡ at place) (again : ℕ)
-      (again-so : again ≡ (place + 1) + place_of number (cells_left at (place + 1) count))
-    where
-      abbrev behind : ℕ
-      behind = place + 1
+    pub found_nowhere : t.count ≤ place → None ≡ find t place number
+    unfolding find among when◌then◌else◌
+    found_nowhere past = rw (cells-end its-numbers place t.count past)
 
-      twice-next : (b : Bool) → among number (cells_left at behind count) ≡ b
-          → twice (cells_left at place count) ≡ (when b then true else twice (cells_left at behind count))
-      unfolding twice when◌then◌else◌
-      twice-next true so = rw (cells-next at place count inside, ← number-so, so)
-      twice-next false so = rw (cells-next at place count inside, ← number-so, so)
+  module _ (place : ℕ) where
+    module _ (inside : place < t.count) (number : ℕ) (number-so : number ≡ its-numbers place)
+        (found : Option ℕ) (found-so : found ≡ find t (place + 1) number) (again : Bool) (again-so : again ≡ is_some found)
+      where
+        abbrev behind : List ℕ
+        behind = cells_left its-numbers (place + 1) t.count
 
-      pub twice-here : again < count → true ≡ twice (cells_left at place count)
-      unfolding when◌then◌else◌
-      twice-here low =
-          let long = length-cells at behind (count - behind) in
-          sym (twice-next true (among-found number (cells_left at behind count) (omega (arith, long, again-so))))
+        again-among : again ≡ among number behind
+        again-among = again-so ∙ ap is_some found-so ∙ some-where-among t (place + 1) number
 
-      pub twice-later : count ≤ again → twice (cells_left at place count) ≡ twice (cells_left at behind count)
-      unfolding when◌then◌else◌
-      twice-later high =
-          let long = length-cells at behind (count - behind) in
-          twice-next false (among-missing number (cells_left at behind count) (omega (arith, long, again-so)))
+        twice-next : twice (cells_left its-numbers place t.count) ≡ again || twice behind
+        unfolding twice
+        twice-next = rw (cells-next its-numbers place t.count inside, ← number-so, ← again-among)
 
-  pub twice-nowhere : count ≤ place → false ≡ twice (cells_left at place count)
-  unfolding twice
-  twice-nowhere past = rw (cells-end at place count past)
+        pub twice-here : again ≡ true → true ≡ twice (cells_left its-numbers place t.count)
+        twice-here so = sym (twice-next ∙ ap (λ b. b || twice behind) so)
+
+        pub twice-later : again ≡ false → twice (cells_left its-numbers place t.count) ≡ twice behind
+        twice-later so = twice-next ∙ ap (λ b. b || twice behind) so
+
+    pub twice-nowhere : t.count ≤ place → false ≡ twice (cells_left its-numbers place t.count)
+    unfolding twice
+    twice-nowhere past = rw (cells-end its-numbers place t.count past)
 
 -- ---- the ways out of judging a table
 

@@ -1,7 +1,7 @@
 -- The ledger's lent table: a count of the passes in use and four columns of 256. It is looked at in two ways: as columns, and as the list of the passes in
 -- use, in order of sale. Places past the count are not looked at, and a sale alone writes the first of them.
 -- Assumes nothing.
-use Rattle.std.specs.Prelude.{ℕ, ◌+◌, ◌≡◌, Bool, true, false, not, ◌&&◌, ◌||◌, List, [], ◌∷◌, map, eqb, leb, length, get_or, set}
+use Rattle.std.specs.Prelude.{ℕ, ◌+◌, ◌-◌, ◌≡◌, Bool, true, false, not, ◌&&◌, ◌||◌, Option, Some, None, List, [], ◌∷◌, map, eqb, leb, length, get_or, set}
 use Rattle.numbers.specs.Fronts.{with_front}
 use Rattle.basics.specs.Ladder.{when◌then◌else◌}
 use Rattle.columns.specs.Walks.{cells_from, every}
@@ -72,6 +72,12 @@ among number (n ∷ ns) = eqb n number || among number ns
 unfoldable pub place_of : (number : ℕ) → (numbers : List ℕ) → ℕ
 place_of number [] = 0
 place_of number (n ∷ ns) = when eqb n number then 0 else place_of number ns + 1
+
+-- Where a pass in use has a number first, from a place on; none where no such pass has it.
+unfoldable pub find : Table → (from number : ℕ) → Option ℕ
+find t from number =
+    let numbers = cells_from (number_in t.columns.passes) from (t.count - from) in
+    when among number numbers then Some (from + place_of number numbers) else None
 
 -- "a pass twice"
 unfoldable pub twice : (numbers : List ℕ) → Bool

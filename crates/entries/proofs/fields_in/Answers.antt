@@ -6,4 +6,4 @@ use Rattle.entries.proofs.fields_in.Goals as goal
 pub returns : goal.returns
 unfolding fields_in
 returns c =
-    rw (c.read_u32.ensures, c.read_u16.ensures, c.read_u32-2.ensures, c.read_u32-3.ensures)
+    rw (c.read.ensures, c.read-2.ensures, c.read-3.ensures, c.read-4.ensures)

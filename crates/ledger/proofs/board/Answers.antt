@@ -1,19 +1,20 @@
 -- `ledger::board` meets its contract: each return is a way out of a boarding.
 -- Assumes nothing.
+use Rattle.std.proofs.Common.{rules, sym, ◌∙◌}
+use Rattle.basics.proofs.Answer.{passed-on}
 use Rattle.ledger.proofs.Ways.{boarding-of-unknown, boarding-refused, boarding-taken}
 use Rattle.ledger.proofs.board.Goals as goal
 
-pub returns-then-count-place : goal.returns-then-count-place
-returns-then-count-place c =
-    boarding-of-unknown _ _ c.requires _ _ c.find-place.ensures _ _ c.if-count-place.true
+pub returns-in_default-clause-ruled : goal.returns-in_default-clause-ruled
+returns-in_default-clause-ruled c = boarding-of-unknown _ c.requires _ _ _ (sym c.find.ensures ∙ c.in_default.is)
 
-pub returns-in-Taken : goal.returns-in-Taken
-returns-in-Taken c =
-    boarding-taken _ _ c.requires _ _ c.find-place.ensures _ _ c.if-count-place.false _ c.pass_at-pass.ensures _ c.board_pass.ensures _
-    c.in-Taken.is
-    _ c.store_pass.ensures
+pub returns-in_err-next-clause-ruled : goal.returns-in_err-next-clause-ruled
+returns-in_err-next-clause-ruled c =
+    rw (passed-on _ _ c.from_residual.ensures)
+    (boarding-refused _ c.requires _ _ _ _ (sym c.find.ensures ∙ c.in-Some.is) _ c.pass_at-pass.ensures _ c.in_err-next.ensures)
 
-pub returns-in-Refused : goal.returns-in-Refused
-returns-in-Refused c =
-    boarding-refused _ _ c.requires _ _ c.find-place.ensures _ _ c.if-count-place.false _ c.pass_at-pass.ensures _ c.board_pass.ensures _
-    c.in-Refused.is
+pub returns-clause-ruled : goal.returns-clause-ruled
+returns-clause-ruled c =
+    let taken = boarding-taken _ c.requires _ _ _ _ (sym c.find.ensures ∙ c.in-Some.is) _ c.pass_at-pass.ensures _ c.in_ok-next.ensures
+    _ c.store_pass.ensures.stored in
+    search (rules, taken)

@@ -1,7 +1,0 @@
--- `passes::day_at` meets its contract: past the end the column reads as 0.
--- Assumes nothing.
-use Rattle.columns.proofs.Ways.{reads-0}
-use Rattle.passes.proofs.day_at.Goals as goal
-
-pub returns : goal.returns
-returns c = reads-0 c.args.days.now c.args.place c.if-place-days.false
