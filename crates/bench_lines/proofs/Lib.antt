@@ -1,4 +1,5 @@
 mod Words
 mod Digits
+mod Names
 mod Ways
 mod Promises

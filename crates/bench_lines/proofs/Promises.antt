@@ -3,20 +3,24 @@
 -- Assumes nothing.
 use Prim.Native.Nat.{ℕ, zero, suc, ◌≤◌, ◌<◌}
 use mathlib.Core.Path.{◌≡◌, refl, sym, ap, subst, ◌∙◌}
-use mathlib.Core.Bool.{true, false, ◌&&◌, not, false≢true}
+use mathlib.Core.Bool.{true, false, ◌&&◌, false≢true}
 use mathlib.Core.List.{List, [], ◌∷◌, ◌++◌}
 use native.Mathlib.Omega.{arith}
 use lib.Dec.{eqb, leb, ltb}
 use lib.ListN.{length, get_or, length-append}
-use borrow.Author.Tests.{not-true, eqb-true, leb-true, ltb-true, ne_eqb}
+use borrow.Author.Tests.{eqb-true, leb-true, ltb-true, ne_eqb}
 use Rattle.basics.specs.Ladder.{when◌then◌else◌, need◌or◌then◌}
 use Rattle.basics.proofs.Ladder.{by-test, if-elim, need-elim, both_true}
+use Rattle.std.specs.Prelude.{Option, Some, None, unwrap_or}
+use Rattle.bench_lines.specs.declared.Player.{Player}
+use Rattle.bench_lines.specs.declared.Player.TheVariants.{Primary, Acceptor, Backup, Learner}
 use Rattle.bench_lines.specs.declared.Command.{Command}
-use Rattle.bench_lines.specs.declared.Command.TheVariants.{Primary, Acceptor, Backup, Learner, Start, Bad}
-use Rattle.bench_lines.specs.Line.{space, first_word, rest_of, digit_of, are_digits, is_hex, bytes_of, number_of, is_decimal, value_of}
+use Rattle.bench_lines.specs.declared.Command.TheVariants.{Packet, Start}
+use Rattle.bench_lines.specs.Line.{space, first_word, rest_of, digit_in, digit_of, are_digits, is_hex, bytes_of, number_of, is_decimal, value_of}
 use Rattle.bench_lines.specs.Line.{primary_letter, acceptor_letter, backup_letter, learner_letter, start_letter}
-use Rattle.bench_lines.specs.Line.{is_letter, is_numbered, own_of, player_of, is_bad, start_with, start_of, Meaning, meaning, meaning_of}
-use Rattle.bench_lines.specs.Promises.{digit_byte, PlayerName, the_primary, an_acceptor, a_backup, the_learner, Form, packet_line, start_line, CommandExactly, BadKeepsBuffer, LongIsBad}
+use Rattle.bench_lines.specs.Line.{is_letter, is_numbered, own_of, player_of, start_with, start_of, command_for, command_of, buffer_after}
+use Rattle.bench_lines.specs.Promises.{digit_byte, PlayerName, the_primary, an_acceptor, a_backup, the_learner, Form, packet_line, start_line}
+use Rattle.bench_lines.specs.Promises.{CommandExactly, BadKeepsBuffer, LongIsBad}
 use Rattle.bench_lines.proofs.Words.{word-ends, rest-begins, word-goes-on, rest-later}
 use Rattle.bench_lines.proofs.Digits.{hex-brings, decimal-brings, decimal-digits}
 
@@ -24,7 +28,7 @@ use Rattle.bench_lines.proofs.Digits.{hex-brings, decimal-brings, decimal-digits
 
 -- a digit is no space
 no-space : (base byte : ℕ) → base ≤ 16 → digit_of byte < base → eqb byte space ≡ false
-unfolding digit_of when◌then◌else◌
+unfolding digit_in when◌then◌else◌
 no-space base byte few small = ne_eqb byte space (λ same. let sixteen : digit_of byte ≡ 16 = ap digit_of same in omega arith)
 
 module _ (base : ℕ) (few : base ≤ 16) (rest : List ℕ) where
@@ -44,37 +48,36 @@ module _ (base : ℕ) (few : base ≤ 16) (rest : List ℕ) where
       rest-later byte (bytes ++ (space ∷ rest)) (no-space base byte few (ltb-true (digit_of byte) base parts.0)) ∙ rest-of-digits bytes parts.1
 
 -- what a name is, where something stands behind it
-record Named (name rest : List ℕ) (player : Command) : Type 0 where
+record Named (name rest : List ℕ) (player : Player) : Type 0 where
   first : first_word (name ++ (space ∷ rest)) ≡ name
   behind : rest_of (name ++ (space ∷ rest)) ≡ rest
-  named : player_of name ≡ player
-  fine : is_bad player ≡ false
+  named : player_of name ≡ Some player
   short : length name ≤ 2
 
-named-so : (name rest : List ℕ) (player : Command) → PlayerName name player → Named name rest player
-unfolding first_word rest_of player_of is_letter is_numbered digit_of is_bad when◌then◌else◌
-named-so name rest player the_primary = record { first = refl; behind = refl; named = refl; fine = refl; short = omega arith }
-named-so name rest player (an_acceptor zero most) = record { first = refl; behind = refl; named = refl; fine = refl; short = omega arith }
-named-so name rest player (an_acceptor (suc zero) most) = record { first = refl; behind = refl; named = refl; fine = refl; short = omega arith }
-named-so name rest player (an_acceptor (suc (suc zero)) most) = record { first = refl; behind = refl; named = refl; fine = refl; short = omega arith }
+named-so : (name rest : List ℕ) (player : Player) → PlayerName name player → Named name rest player
+unfolding first_word rest_of player_of is_letter is_numbered digit_in when◌then◌else◌
+named-so name rest player the_primary = record { first = refl; behind = refl; named = refl; short = omega arith }
+named-so name rest player (an_acceptor zero most) = record { first = refl; behind = refl; named = refl; short = omega arith }
+named-so name rest player (an_acceptor (suc zero) most) = record { first = refl; behind = refl; named = refl; short = omega arith }
+named-so name rest player (an_acceptor (suc (suc zero)) most) = record { first = refl; behind = refl; named = refl; short = omega arith }
 named-so name rest player (an_acceptor (suc (suc (suc own))) most) = absurd (omega arith)
 named-so name rest player (a_backup zero least most) = absurd (omega arith)
-named-so name rest player (a_backup (suc zero) least most) = record { first = refl; behind = refl; named = refl; fine = refl; short = omega arith }
-named-so name rest player (a_backup (suc (suc zero)) least most) = record { first = refl; behind = refl; named = refl; fine = refl; short = omega arith }
-named-so name rest player (a_backup (suc (suc (suc zero))) least most) = record { first = refl; behind = refl; named = refl; fine = refl; short = omega arith }
+named-so name rest player (a_backup (suc zero) least most) = record { first = refl; behind = refl; named = refl; short = omega arith }
+named-so name rest player (a_backup (suc (suc zero)) least most) = record { first = refl; behind = refl; named = refl; short = omega arith }
+named-so name rest player (a_backup (suc (suc (suc zero))) least most) = record { first = refl; behind = refl; named = refl; short = omega arith }
 named-so name rest player (a_backup (suc (suc (suc (suc own)))) least most) = absurd (omega arith)
-named-so name rest player the_learner = record { first = refl; behind = refl; named = refl; fine = refl; short = omega arith }
+named-so name rest player the_learner = record { first = refl; behind = refl; named = refl; short = omega arith }
 
 -- what s1 to s3 are, where something stands behind them
 record Starter (own : ℕ) (rest : List ℕ) : Type 0 where
   first : first_word (start_letter ∷ digit_byte own ∷ space ∷ rest) ≡ start_letter ∷ digit_byte own ∷ []
   behind : rest_of (start_letter ∷ digit_byte own ∷ space ∷ rest) ≡ rest
-  no-player : is_bad (player_of (start_letter ∷ digit_byte own ∷ [])) ≡ true
+  no-player : player_of (start_letter ∷ digit_byte own ∷ []) ≡ None
   starter : is_numbered start_letter 1 3 (start_letter ∷ digit_byte own ∷ []) ≡ true
   number : own_of (start_letter ∷ digit_byte own ∷ []) ≡ own
 
 starter-so : (own : ℕ) (rest : List ℕ) → 1 ≤ own → own ≤ 3 → Starter own rest
-unfolding first_word rest_of player_of is_letter is_numbered digit_of is_bad when◌then◌else◌
+unfolding first_word rest_of player_of is_letter is_numbered digit_in when◌then◌else◌
 starter-so zero rest least most = absurd (omega arith)
 starter-so (suc zero) rest least most = record { first = refl; behind = refl; no-player = refl; starter = refl; number = refl }
 starter-so (suc (suc zero)) rest least most = record { first = refl; behind = refl; no-player = refl; starter = refl; number = refl }
@@ -83,12 +86,11 @@ starter-so (suc (suc (suc (suc own)))) rest least most = absurd (omega arith)
 
 -- ---- from a form to what it means
 
-means : (buffer line : List ℕ) (m : Meaning) → Form buffer line m → (meaning_of line buffer ≡ m) × (is_bad m.command ≡ false)
-unfolding meaning_of start_of start_with need◌or◌then◌ is_bad
-means buffer line m (packet_line name digits player player-so hex) =
-    let so = named-so name digits player player-so in
-    (rw (so.first, so.behind, so.named, so.fine, hex), so.fine)
-means buffer line m (start_line own least most instance floor value instance-so floor-so value-so) =
+means : (line : List ℕ) (command : Command) → Form line command → command_of line ≡ Some command
+unfolding command_of command_for start_of start_with need◌or◌then◌
+means line command (packet_line name digits player player-so hex) =
+    let so = named-so name digits player player-so in rw (so.first, so.behind, so.named, hex)
+means line command (start_line own least most instance floor value instance-so floor-so value-so) =
     let so = starter-so own (instance ++ (space ∷ (floor ++ (space ∷ value)))) least most in
     let digits = decimal-digits instance instance-so in
     let floor-digits = decimal-digits floor floor-so in
@@ -96,7 +98,7 @@ means buffer line m (start_line own least most instance floor value instance-so 
     let behind = rest-of-digits 10 (omega arith) (floor ++ (space ∷ value)) instance digits in
     let word₂ = digits-are-a-word 10 (omega arith) value floor floor-digits in
     let behind₂ = rest-of-digits 10 (omega arith) value floor floor-digits in
-    (rw (so.first, so.behind, so.no-player, so.starter, word, behind, word₂, behind₂, instance-so, floor-so, value-so, so.number), refl)
+    rw (so.first, so.behind, so.no-player, so.starter, word, behind, word₂, behind₂, instance-so, floor-so, value-so, so.number)
 
 -- ---- from what a line means to its form
 
@@ -117,11 +119,14 @@ longer (byte ∷ bytes) some = omega arith
 
 -- a digit below ten is its byte
 digit-byte : (byte : ℕ) → digit_of byte ≤ 9 → byte ≡ digit_byte (digit_of byte)
-unfolding digit_of
+unfolding digit_in
 digit-byte byte =
-    if-elim (λ k. k ≤ 9 → byte ≡ digit_byte k) _ _ _ (λ in-0-9 few. let h = leb-true 48 byte (both_true (leb 48 byte) (leb byte 57) in-0-9).0 in omega arith)
-    (λ _. if-elim (λ k. k ≤ 9 → byte ≡ digit_byte k) _ _ _ (λ _ few. absurd (omega arith))
-    (λ _. if-elim (λ k. k ≤ 9 → byte ≡ digit_byte k) _ _ _ (λ _ few. absurd (omega arith)) (λ _ few. absurd (omega arith))))
+    if-elim its-byte _ _ _ (λ in-0-9 few. let h = leb-true 48 byte (both_true (leb 48 byte) (leb byte 57) in-0-9).0 in omega arith)
+    (λ _. if-elim its-byte _ _ _ (λ _ few. absurd (omega arith))
+    (λ _. if-elim its-byte _ _ _ (λ _ few. absurd (omega arith)) (λ _ few. absurd (omega arith))))
+  where
+    its-byte : Option ℕ → Type 0
+    its-byte o = unwrap_or o 16 ≤ 9 → byte ≡ digit_byte (unwrap_or o 16)
 
 letter-alone : (letter : ℕ) (name : List ℕ) → is_letter letter name ≡ true → name ≡ letter ∷ []
 unfolding is_letter
@@ -146,7 +151,8 @@ numbered-so letter first last name few test =
     let at_most = leb-true (own_of name) last last-part.1 in
     let two = pair_of name (eqb-true (length name) 2 letter-part.0) in
     record {
-      written = two ∙ ap (λ k. k ∷ get_or name 1 0 ∷ []) (eqb-true (get_or name 0 0) letter letter-part.1) ∙ ap (λ k. letter ∷ k ∷ []) (digit-byte (get_or name 1 0) (omega arith));
+      written = two ∙ ap (λ k. k ∷ get_or name 1 0 ∷ []) (eqb-true (get_or name 0 0) letter letter-part.1)
+          ∙ ap (λ k. letter ∷ k ∷ []) (digit-byte (get_or name 1 0) (omega arith));
       least = leb-true first (own_of name) first_part.1;
       most = at_most;
     }
@@ -158,26 +164,33 @@ numbered-so letter first last name few test =
     pair_of (byte ∷ byte₂ ∷ byte₃ ∷ others) two = absurd (omega arith)
 
 module _ (name : List ℕ) where
-  abbrev named_if : Command → Type 0
-  named_if command = is_bad command ≡ false → PlayerName name command
+  abbrev named_as : Option Player → Type 0
+  named_as named = (player : Player) → named ≡ Some player → PlayerName name player
 
-  player-named : named_if (player_of name)
-  unfolding player_of is_bad
+  player-named : named_as (player_of name)
+  unfolding player_of
   player-named =
-      if-elim named_if (is_letter primary_letter name) _ _ (λ test _. rw (letter-alone primary_letter name test) the_primary)
-      (λ _. if-elim named_if (is_numbered acceptor_letter 0 2 name) _ _
-      (λ test _.
+      if-elim named_as (is_letter primary_letter name) _ _
+      (λ test player e. rw (letter-alone primary_letter name test, ← some-same Primary player e) the_primary)
+      (λ _. if-elim named_as (is_numbered acceptor_letter 0 2 name) _ _
+      (λ test player e.
       let so = numbered-so acceptor_letter 0 2 name (omega arith) test in
-      subst (λ n. PlayerName n (Acceptor (own_of name))) (sym so.written) (an_acceptor (own_of name) so.most))
-      (λ _. if-elim named_if (is_numbered backup_letter 1 3 name) _ _
-      (λ test _.
+      rw (← some-same (Acceptor (own_of name)) player e)
+      (subst (λ n. PlayerName n (Acceptor (own_of name))) (sym so.written) (an_acceptor (own_of name) so.most)))
+      (λ _. if-elim named_as (is_numbered backup_letter 1 3 name) _ _
+      (λ test player e.
       let so = numbered-so backup_letter 1 3 name (omega arith) test in
-      subst (λ n. PlayerName n (Backup (own_of name))) (sym so.written) (a_backup (own_of name) so.least so.most))
-      (λ _. if-elim named_if (is_letter learner_letter name) _ _ (λ test _. rw (letter-alone learner_letter name test) the_learner) (λ _ fine. absurd (false≢true (sym fine))))))
+      rw (← some-same (Backup (own_of name)) player e)
+      (subst (λ n. PlayerName n (Backup (own_of name))) (sym so.written) (a_backup (own_of name) so.least so.most)))
+      (λ _. if-elim named_as (is_letter learner_letter name) _ _
+      (λ test player e. rw (letter-alone learner_letter name test, ← some-same Learner player e) the_learner) (λ _ player e. absurd cc))))
+    where
+      some-same : (x y : Player) → Some x ≡ Some y → x ≡ y
+      some-same x y e = cc
 
-module _ (line buffer : List ℕ) where
-  abbrev formed : Meaning → Type 0
-  formed m = is_bad m.command ≡ false → Form buffer line m
+module _ (line : List ℕ) where
+  abbrev formed : Option Command → Type 0
+  formed asked = (command : Command) → asked ≡ Some command → Form line command
 
   abbrev name : List ℕ
   name = first_word line
@@ -185,79 +198,68 @@ module _ (line buffer : List ℕ) where
   abbrev rest : List ℕ
   rest = rest_of line
 
-  abbrev start_formed : Command → Type 0
-  start_formed command = formed (meaning command buffer)
+  none-formed : formed None
+  none-formed command e = absurd cc
 
-  bad-has-none : start_formed Bad
-  unfolding is_bad
-  bad-has-none fine = absurd (false≢true (sym fine))
+  the-same : (found : Command) → Form line found → formed (Some found)
+  the-same found form command e = subst (Form line) (let same : found ≡ command = cc in same) form
 
-  packet-formed : is_bad (player_of name) ≡ false → is_hex 72 rest ≡ true → formed (meaning (player_of name) (bytes_of rest))
-  packet-formed player hex _ =
-      subst (λ bytes. Form buffer bytes (meaning (player_of name) (bytes_of rest))) (joined line (omega (arith, (hex-brings 72 rest hex).0)))
-      (packet_line name rest (player_of name) (player-named name player) hex)
+  packet-formed : (player : Player) → player_of name ≡ Some player → is_hex 72 rest ≡ true → Form line (Packet player (bytes_of rest))
+  packet-formed player player-so hex =
+      subst (λ bytes. Form bytes (Packet player (bytes_of rest))) (joined line (omega (arith, (hex-brings 72 rest hex).0)))
+      (packet_line name rest player (player-named name player player-so) hex)
 
-  start-formed : start_formed (start_of name rest)
+  start-formed : formed (start_of name rest)
   unfolding start_of start_with
   start-formed =
       let instance = first_word rest in
       let floor = first_word (rest_of rest) in
       let value = rest_of (rest_of rest) in
-      need-elim start_formed (is_numbered start_letter 1 3 name) _ _ bad-has-none
-      (λ starter. need-elim start_formed (is_decimal instance) _ _ bad-has-none
-      (λ instance-so. need-elim start_formed (is_decimal floor) _ _ bad-has-none
-      (λ floor-so. need-elim start_formed (is_hex 32 value) _ _ bad-has-none
-      (λ value-so _.
+      need-elim formed (is_numbered start_letter 1 3 name) _ _ none-formed
+      (λ starter. need-elim formed (is_decimal instance) _ _ none-formed
+      (λ instance-so. need-elim formed (is_decimal floor) _ _ none-formed
+      (λ floor-so. need-elim formed (is_hex 32 value) _ _ none-formed
+      (λ value-so.
       let so = numbered-so start_letter 1 3 name (omega arith) starter in
-      subst (λ bytes. Form buffer bytes (meaning (Start (own_of name) (number_of instance) (number_of floor) (value_of value)) buffer)) (start-joined value-so so.written)
-      (start_line (own_of name) so.least so.most instance floor value instance-so floor-so value-so)))))
+      the-same _ (subst (λ bytes. Form bytes (Start (own_of name) (number_of instance) (number_of floor) (value_of value))) (start-joined value-so so.written)
+      (start_line (own_of name) so.least so.most instance floor value instance-so floor-so value-so))))))
     where
       start-joined : is_hex 32 (rest_of (rest_of rest)) ≡ true → name ≡ start_letter ∷ digit_byte (own_of name) ∷ []
-          → start_letter ∷ digit_byte (own_of name) ∷ space ∷ (first_word rest ++ (space ∷ (first_word (rest_of rest) ++ (space ∷ rest_of (rest_of rest))))) ≡ line
+          → start_letter ∷ digit_byte (own_of name) ∷ space
+          ∷ (first_word rest ++ (space ∷ (first_word (rest_of rest) ++ (space ∷ rest_of (rest_of rest))))) ≡ line
       start-joined value-so written =
           let third = joined (rest_of rest) (omega (arith, (hex-brings 32 (rest_of (rest_of rest)) value-so).0)) in
           let second = joined rest (longer (rest_of rest) (omega (arith, (hex-brings 32 (rest_of (rest_of rest)) value-so).0))) in
           let first = joined line (longer rest (longer (rest_of rest) (omega (arith, (hex-brings 32 (rest_of (rest_of rest)) value-so).0)))) in
           rw (third, second) (ap (λ bytes. bytes ++ (space ∷ rest)) (sym written) ∙ first)
 
-  has-form : formed (meaning_of line buffer)
-  unfolding meaning_of
-  has-form =
-      need-elim formed (not (is_bad (player_of name))) _ _ start-formed
-      (λ player. need-elim formed (is_hex 72 rest) _ _ bad-has-none (λ hex. packet-formed (not-true (is_bad (player_of name)) player) hex))
+  line-formed : (named : Option Player) → player_of name ≡ named → formed (command_for named name rest)
+  unfolding command_for
+  line-formed (Some player) so = need-elim formed (is_hex 72 rest) _ _ none-formed (λ hex. the-same _ (packet-formed player so hex))
+  line-formed None so = start-formed
+
+  has-form : formed (command_of line)
+  unfolding command_of
+  has-form = line-formed (player_of name) refl
 
 command-exactly : CommandExactly
-command-exactly line buffer m =
-    (λ so. subst (Form buffer line) so.0 (has-form line buffer (ap (λ n. is_bad n.command) so.0 ∙ so.1)), means buffer line m)
+command-exactly line command = (has-form line command, means line command)
 
 -- ---- bad lines
 
-bad-alone : (command : Command) → is_bad command ≡ true → command ≡ Bad
-unfolding is_bad
-bad-alone Bad bad = refl
-bad-alone Primary bad = absurd (false≢true bad)
-bad-alone (Acceptor own) bad = absurd (false≢true bad)
-bad-alone (Backup own) bad = absurd (false≢true bad)
-bad-alone Learner bad = absurd (false≢true bad)
-bad-alone (Start own instance floor value) bad = absurd (false≢true bad)
-
 bad-keeps-buffer : BadKeepsBuffer
-unfolding meaning_of
-bad-keeps-buffer line buffer =
-    need-elim kept (not (is_bad (player_of (first_word line)))) _ _ (λ bad. ap (λ command. meaning command buffer) (bad-alone (start_of (first_word line) (rest_of line)) bad))
-    (λ player. need-elim kept (is_hex 72 (rest_of line)) _ _ (λ _. refl)
-    (λ _ bad. absurd (false≢true (sym (not-true (is_bad (player_of (first_word line))) player) ∙ bad))))
-  where
-    kept : Meaning → Type 0
-    kept m = is_bad m.command ≡ true → m ≡ meaning Bad buffer
+unfolding buffer_after
+bad-keeps-buffer line buffer bad = rw bad
 
-form-is-short : (buffer line : List ℕ) (m : Meaning) → Form buffer line m → length line ≤ 75
-form-is-short buffer line m (packet_line name digits player player-so hex) =
+form-is-short : (line : List ℕ) (command : Command) → Form line command → length line ≤ 75
+form-is-short line command (packet_line name digits player player-so hex) =
     simp length-append (omega (arith, (named-so name digits player player-so).short, (hex-brings 72 digits hex).0))
-form-is-short buffer line m (start_line own least most instance floor value instance-so floor-so value-so) =
+form-is-short line command (start_line own least most instance floor value instance-so floor-so value-so) =
     simp length-append (omega (arith, (decimal-brings instance instance-so).0, (decimal-brings floor floor-so).0, (hex-brings 32 value value-so).0))
 
 long-is-bad : LongIsBad
-long-is-bad line buffer long =
-    by-test (is_bad (meaning_of line buffer).command) (bad-keeps-buffer line buffer)
-    (λ fine. absurd (let short = form-is-short buffer line (meaning_of line buffer) (has-form line buffer fine) in omega arith))
+long-is-bad line long = none-left (command_of line) refl
+  where
+    none-left : (asked : Option Command) → command_of line ≡ asked → command_of line ≡ None
+    none-left None so = so
+    none-left (Some command) so = absurd (let short = form-is-short line command (has-form line command so) in omega arith)

@@ -1,134 +1,84 @@
--- The ways out of the functions that judge names and lines: each test, as it came out, picks the definition's line.
+-- The ways out of the functions that judge lines: each step, as it came out, picks the definition's line.
 -- Assumes nothing.
-use Prim.Native.Nat.{ℕ, ◌≤◌}
-use mathlib.Core.Path.{◌≡◌, refl, sym, ap, ◌∙◌}
-use mathlib.Core.Bool.{Bool, true, false, ◌&&◌, not}
+use Prim.Native.Nat.{ℕ}
+use mathlib.Core.Path.{◌≡◌, sym, ◌∙◌}
 use mathlib.Core.List.{List}
-use lib.Dec.{leb}
-use lib.ListN.{length}
-use borrow.Author.Tests.{leb-true}
-use Rattle.basics.specs.Ladder.{when◌then◌else◌, need◌or◌then◌}
-use Rattle.basics.proofs.Ladder.{if-true, if-false, need-passed, need-failed, both_true}
+use lib.ListN.{length, get_or}
+use Rattle.std.specs.Prelude.{Option, Some, None}
+use Rattle.basics.proofs.Ladder.{need-passed, need-failed}
+use Rattle.bench_lines.specs.declared.Player.{Player}
 use Rattle.bench_lines.specs.declared.Command.{Command}
-use Rattle.bench_lines.specs.declared.Command.TheVariants.{Primary, Acceptor, Backup, Learner, Start, Bad}
-use Rattle.bench_lines.specs.Line.{first_word, rest_of, are_digits, is_hex, bytes_of, number_of, is_decimal, value_of}
-use Rattle.bench_lines.specs.Line.{primary_letter, acceptor_letter, backup_letter, learner_letter, start_letter}
-use Rattle.bench_lines.specs.Line.{is_letter, is_numbered, own_of, is_bad, player_of, start_with, start_of, meaning, meaning_of}
-
--- ---- a command that is none
-
-pub bad-is-bad : (command : Command) → command ≡ Bad → true ≡ is_bad command
-unfolding is_bad
-bad-is-bad command bad = rw bad
-
-pub others-are-not : (command : Command) → (command ≡ Bad → ⊥) → false ≡ is_bad command
-unfolding is_bad
-others-are-not Primary other = refl
-others-are-not (Acceptor own) other = refl
-others-are-not (Backup own) other = refl
-others-are-not Learner other = refl
-others-are-not (Start own instance floor value) other = refl
-others-are-not Bad other = absurd (other refl)
-
--- ---- a decimal
-
-module _ (text : List ℕ) where
-  -- one to ten digits
-  abbrev fits : Bool
-  fits = leb 1 (length text) && leb (length text) 10
-
-  pub wrong-length : fits ≡ false → false ≡ is_decimal text
-  unfolding is_decimal
-  wrong-length no-so = rw no-so
-
-  pub ten-at-most : fits ≡ true → length text ≤ 10
-  ten-at-most yes-so = leb-true (length text) 10 (both_true (leb 1 (length text)) (leb (length text) 10) yes-so).1
-
-  pub right-length : fits ≡ true → (digits : Bool) (number : ℕ) → digits ≡ are_digits 10 text → number ≡ number_of text → digits && leb number 4294967295 ≡ is_decimal text
-  unfolding is_decimal
-  right-length yes-so digits number digits-so number-so = rw (yes-so, digits-so, number-so)
-
--- ---- a player's name: p, a0 to a2, b1 to b3, l
-
-module _ (name : List ℕ) (test : Bool) (tested : test ≡ is_letter primary_letter name) where
-  pub names-primary : test ≡ true → Primary ≡ player_of name
-  unfolding player_of
-  names-primary yes-so = sym (if-true _ _ (sym tested ∙ yes-so))
-
-  module _ (not-p : test ≡ false) (test₂ : Bool) (tested₂ : test₂ ≡ is_numbered acceptor_letter 0 2 name) where
-    pub names-acceptor : test₂ ≡ true → (own : ℕ) → own ≡ own_of name → Acceptor own ≡ player_of name
-    unfolding player_of
-    names-acceptor yes-so own own-so = ap Acceptor own-so ∙ sym (if-false _ _ (sym tested ∙ not-p) ∙ if-true _ _ (sym tested₂ ∙ yes-so))
-
-    module _ (not_a : test₂ ≡ false) (test₃ : Bool) (tested₃ : test₃ ≡ is_numbered backup_letter 1 3 name) where
-      pub names-backup : test₃ ≡ true → (own : ℕ) → own ≡ own_of name → Backup own ≡ player_of name
-      unfolding player_of
-      names-backup yes-so own own-so =
-          ap Backup own-so ∙ sym (if-false _ _ (sym tested ∙ not-p) ∙ if-false _ _ (sym tested₂ ∙ not_a) ∙ if-true _ _ (sym tested₃ ∙ yes-so))
-
-      module _ (not-b : test₃ ≡ false) (test₄ : Bool) (tested₄ : test₄ ≡ is_letter learner_letter name) where
-        past : (command : Command) → (when test₄ then Learner else Bad) ≡ command → command ≡ player_of name
-        unfolding player_of
-        past command last =
-            sym last ∙ ap (λ b. when b then Learner else Bad) tested₄
-            ∙ sym (if-false _ _ (sym tested ∙ not-p) ∙ if-false _ _ (sym tested₂ ∙ not_a) ∙ if-false _ _ (sym tested₃ ∙ not-b))
-
-        pub names-learner : test₄ ≡ true → Learner ≡ player_of name
-        names-learner yes-so = past Learner (if-true _ _ yes-so)
-
-        pub names-none : test₄ ≡ false → Bad ≡ player_of name
-        names-none no-so = past Bad (if-false _ _ no-so)
+use Rattle.bench_lines.specs.declared.Command.TheVariants.{Packet, Start}
+use Rattle.bench_lines.specs.Line.{first_word, rest_of, hex_in, decimal_in, value_from, number_within, player_of, start_with, start_of, command_for, command_of}
+use Rattle.bench_lines.proofs.Digits.{hex-none, hex-some, decimal-none, decimal-some}
+use Rattle.bench_lines.proofs.Names.{numbered-false, numbered-none, numbered-some}
 
 -- ---- a start
 
-module _ (name instance floor value : List ℕ) (test : Bool) (tested : test ≡ is_numbered start_letter 1 3 name) where
-  pub no-starter : test ≡ false → Bad ≡ start_with name instance floor value
-  unfolding start_with need◌or◌then◌
-  no-starter no-so = rw (← tested, no-so)
+pub start-words : (name rest : List ℕ) {instance behind floor value : List ℕ} {asked : Option Command} → instance ≡ first_word rest → behind ≡ rest_of rest
+    → floor ≡ first_word behind → value ≡ rest_of behind → asked ≡ start_with name instance floor value → asked ≡ start_of name rest
+unfolding start_of
+start-words name rest instance-so behind-so floor-so value-so so =
+    so ∙ rw (value-so, floor-so, behind-so, instance-so)
 
-  module _ (starter : test ≡ true) (test₂ : Bool) (tested₂ : test₂ ≡ is_decimal instance) where
-    pub no-instance : test₂ ≡ false → Bad ≡ start_with name instance floor value
-    unfolding start_with need◌or◌then◌
-    no-instance no-so = rw (← tested, starter, ← tested₂, no-so)
+module _ (name instance floor value : List ℕ) where
+  pub no-starter : (length name ≡ 2 → get_or name 0 0 ≡ 115 → ⊥) → None ≡ start_with name instance floor value
+  unfolding start_with
+  no-starter other = sym (need-failed _ _ (numbered-false 115 name 1 3 other))
 
-    module _ (an-instance : test₂ ≡ true) (test₃ : Bool) (tested₃ : test₃ ≡ is_decimal floor) where
-      pub no-floor : test₃ ≡ false → Bad ≡ start_with name instance floor value
-      unfolding start_with need◌or◌then◌
-      no-floor no-so = rw (← tested, starter, ← tested₂, an-instance, ← tested₃, no-so)
+  module _ (two : length name ≡ 2) (s : get_or name 0 0 ≡ 115) where
+    pub no-number : None ≡ number_within 1 3 (get_or name 1 0) → None ≡ start_with name instance floor value
+    unfolding start_with
+    no-number none = sym (need-failed _ _ (numbered-none 115 name 1 3 two s none))
 
-      module _ (a-floor : test₃ ≡ true) (test₄ : Bool) (tested₄ : test₄ ≡ is_hex 32 value) where
-        pub no_value : test₄ ≡ false → Bad ≡ start_with name instance floor value
-        unfolding start_with need◌or◌then◌
-        no_value no-so =
-            rw (← tested, starter, ← tested₂, an-instance, ← tested₃, a-floor, ← tested₄, no-so)
+    module _ (own : ℕ) (own-so : Some own ≡ number_within 1 3 (get_or name 1 0)) where
+      pub no-instance : None ≡ decimal_in instance → None ≡ start_with name instance floor value
+      unfolding start_with
+      no-instance none =
+          sym (need-passed _ _ (numbered-some 115 name 1 3 two s own own-so).0 ∙ need-failed _ _ (decimal-none instance none))
 
-        pub starts : test₄ ≡ true → (own : ℕ) → own ≡ own_of name → (command : Command)
-            → command ≡ Start own (number_of instance) (number_of floor) (value_of value) → command ≡ start_with name instance floor value
-        unfolding start_with need◌or◌then◌
-        starts a-value own own-so command command-so =
-            command-so ∙ ap (λ k. Start k (number_of instance) (number_of floor) (value_of value)) own-so
-            ∙ rw (← tested, starter, ← tested₂, an-instance, ← tested₃, a-floor, ← tested₄, a-value)
+      module _ (first : ℕ) (first-so : Some first ≡ decimal_in instance) where
+        pub no-floor : None ≡ decimal_in floor → None ≡ start_with name instance floor value
+        unfolding start_with
+        no-floor none =
+            sym (need-passed _ _ (numbered-some 115 name 1 3 two s own own-so).0 ∙ need-passed _ _ (decimal-some instance first first-so).0
+            ∙ need-failed _ _ (decimal-none floor none))
+
+        module _ (least : ℕ) (least-so : Some least ≡ decimal_in floor) where
+          pub no_value : None ≡ hex_in 16 value → None ≡ start_with name instance floor value
+          unfolding start_with
+          no_value none =
+              sym (need-passed _ _ (numbered-some 115 name 1 3 two s own own-so).0 ∙ need-passed _ _ (decimal-some instance first first-so).0
+              ∙ need-passed _ _ (decimal-some floor least least-so).0 ∙ need-failed _ _ (hex-none 16 value none))
+
+          pub starts : (bytes : List ℕ) → Some bytes ≡ hex_in 16 value → Some (Start own first least (value_from bytes)) ≡ start_with name instance floor value
+          unfolding start_with
+          starts bytes bytes-so =
+              let starter = numbered-some 115 name 1 3 two s own own-so in
+              let an-instance = decimal-some instance first first-so in
+              let a-floor = decimal-some floor least least-so in
+              let a-value = hex-some 16 value bytes bytes-so in
+              rw (starter.1, an-instance.1, a-floor.1, a-value.1)
+              (sym (need-passed _ _ starter.0 ∙ need-passed _ _ an-instance.0 ∙ need-passed _ _ a-floor.0 ∙ need-passed _ _ a-value.0))
+
+pub no-start : (name rest : List ℕ) → (length name ≡ 2 → get_or name 0 0 ≡ 115 → ⊥) → None ≡ start_of name rest
+unfolding start_of
+no-start name rest other = no-starter name _ _ _ other
 
 -- ---- a line
 
-module _ (line buffer name rest : List ℕ) (name-so : name ≡ first_word line) (rest-so : rest ≡ rest_of line) where
-  module _ (player : Command) (player-so : player ≡ player_of name) (bad : Bool) (bad-so : bad ≡ is_bad player) where
-    told : is_bad (player_of (first_word line)) ≡ bad
-    told = ap is_bad (ap player_of (sym name-so) ∙ sym player-so) ∙ sym bad-so
+module _ (line name rest : List ℕ) (name-so : name ≡ first_word line) (rest-so : rest ≡ rest_of line) where
+  module _ (player : Player) (player-so : Some player ≡ player_of name) where
+    pub no-packet : None ≡ hex_in 36 rest → None ≡ command_of line
+    unfolding command_of command_for
+    no-packet none = rw (← name-so, ← rest-so, ← player-so) (sym (need-failed _ _ (hex-none 36 rest none)))
 
-    pub line-starts : bad ≡ true → (command : Command) → command ≡ start_of name rest → meaning command buffer ≡ meaning_of line buffer
-    unfolding meaning_of
-    line-starts yes-so command command-so =
-        rw (command-so, name-so, rest-so) (sym (need-failed _ _ (ap not (told ∙ yes-so))))
+    pub packet-taken : (packet : List ℕ) → Some packet ≡ hex_in 36 rest → Some (Packet player packet) ≡ command_of line
+    unfolding command_of command_for
+    packet-taken packet packet-so =
+        let so = hex-some 36 rest packet packet-so in
+        rw (so.1, ← name-so, ← rest-so, ← player-so) (sym (need-passed _ _ so.0))
 
-    module _ (fine : bad ≡ false) (hex : Bool) (hex-so : hex ≡ is_hex 72 rest) where
-      pub no-packet : hex ≡ false → meaning Bad buffer ≡ meaning_of line buffer
-      unfolding meaning_of
-      no-packet no-so =
-          sym (need-passed _ _ (ap not (told ∙ fine)) ∙ need-failed _ _ (ap (is_hex 72) (sym rest-so) ∙ sym hex-so ∙ no-so))
-
-      pub packet-taken : hex ≡ true → (packet : List ℕ) → packet ≡ bytes_of rest → meaning player packet ≡ meaning_of line buffer
-      unfolding meaning_of
-      packet-taken yes-so packet packet-so =
-          rw (packet-so, player-so, name-so, rest-so)
-          (sym (need-passed _ _ (ap not (told ∙ fine)) ∙ need-passed _ _ (ap (is_hex 72) (sym rest-so) ∙ sym hex-so ∙ yes-so)))
+  pub line-starts : None ≡ player_of name → (asked : Option Command) → asked ≡ start_of name rest → asked ≡ command_of line
+  unfolding command_of command_for
+  line-starts none asked asked-so = asked-so ∙ rw (← name-so, ← rest-so, ← none)

@@ -1,16 +1,22 @@
--- The first word of a line and what stands behind its space, a byte at a time and then by the word's length.
+-- The first word of a line and what stands behind its space: the parts before and after the first space, by its place.
 -- Assumes nothing.
 use Prim.Native.Nat.{ℕ, suc, ◌+◌, ◌-◌, ◌≤◌, ◌<◌}
-use mathlib.Core.Path.{◌≡◌, refl, sym, ap, ◌∙◌}
-use mathlib.Core.Bool.{true, false}
+use mathlib.Core.Path.{◌≡◌, refl, sym, ap, subst, ◌∙◌}
+use mathlib.Core.Bool.{Bool, true, false}
 use mathlib.Core.List.{List, [], ◌∷◌}
 use native.Mathlib.Numerals.{add-one}
 use native.Mathlib.Omega.{arith}
-use lib.Dec.{eqb}
-use lib.ListN.{length, get_or, take, drop, length-drop, drop_of_length-le}
-use lib.Seq.{drop-cons, take_all}
+use lib.Dec.{eqb, ltb}
+use lib.ListN.{length, take, drop, length-drop, drop_of_length-le}
+use lib.Seq.{take_all}
+use borrow.Author.Tests.{ltb-true}
+use Rattle.std.proofs.lemmas.Bool.{ltb-false}
+use Rattle.std.specs.Prelude.{Option, Some, None, position}
+use Rattle.std.specs.List.{position_or_len}
 use Rattle.basics.proofs.Ladder.{by-test, if-true, if-false}
 use Rattle.bench_lines.specs.Line.{space, first_word, rest_of}
+
+-- ---- a byte at a time
 
 module _ (byte : ℕ) (bytes : List ℕ) where
   module _ (ends : eqb byte space ≡ true) where
@@ -31,78 +37,67 @@ module _ (byte : ℕ) (bytes : List ℕ) where
     unfolding rest_of
     rest-later = if-false _ _ goes_on
 
--- ---- the walk to the first space
+-- ---- by the place of the first space
 
-module _ (line : List ℕ) (place : ℕ) where
-  -- the word's length, from a place on
-  abbrev pub length_from : ℕ
-  length_from = place + length (first_word (drop place line))
+abbrev pub is_space : (byte : ℕ) → Bool
+is_space byte = eqb byte space
 
-  module _ (inside : place < length line) where
-    pub walk_ends : eqb (get_or line place 0) space ≡ true → length_from ≡ place
-    walk_ends ends = rw (drop-cons line place 0 inside, word-ends _ _ ends) (omega arith)
+-- the place of the first space, or the length
+abbrev pub word_end : (line : List ℕ) → ℕ
+word_end line = position_or_len is_space line
 
-    pub walk-goes-on : eqb (get_or line place 0) space ≡ false → length_from ≡ (place + 1) + length (first_word (drop (place + 1) line))
-    walk-goes-on goes_on = rw (add-one place, drop-cons line place 0 inside, word-goes-on _ _ goes_on) (omega arith)
+one-more : (line : List ℕ) → suc (word_end line) ≡ 1 + word_end line
+one-more line = omega arith
 
-pub walk_begins : (line : List ℕ) → length (first_word line) ≡ length_from line 0
-walk_begins line = omega arith
-
-pub walk-over : (line : List ℕ) (place : ℕ) → length line ≤ place → length_from line place ≡ place
-unfolding first_word
-walk-over line place over = rw (drop_of_length-le line over) (omega arith)
-
--- ---- the line by the word's length
-
-pub word-within : (line : List ℕ) → length (first_word line) ≤ length line
-unfolding first_word
-word-within [] = omega arith
-word-within (byte ∷ bytes) =
-    by-test (eqb byte space) (λ ends. rw (word-ends byte bytes ends) (omega arith))
-    (λ goes_on. rw (word-goes-on byte bytes goes_on) (omega (arith, word-within bytes)))
-
-pub word-taken : (line : List ℕ) → take (length (first_word line)) line ≡ first_word line
+pub word-taken : (line : List ℕ) → take (word_end line) line ≡ first_word line
 unfolding first_word
 word-taken [] = refl
 word-taken (byte ∷ bytes) =
-    by-test (eqb byte space) (λ ends. rw (word-ends byte bytes ends))
-    (λ goes_on. rw (word-goes-on byte bytes goes_on) (ap (λ others. byte ∷ others) (word-taken bytes)))
+    by-test (eqb byte space) (λ ends. rw (word-ends byte bytes ends, ends))
+    (λ goes_on. rw (word-goes-on byte bytes goes_on, goes_on)
+    (subst (λ end. take end (byte ∷ bytes) ≡ byte ∷ first_word bytes) (one-more bytes) (ap (λ others. byte ∷ others) (word-taken bytes))))
 
-pub rest-dropped : (line : List ℕ) → length (first_word line) < length line → drop (suc (length (first_word line))) line ≡ rest_of line
-unfolding first_word
-rest-dropped [] inside = absurd (omega arith)
-rest-dropped (byte ∷ bytes) inside =
-    by-test (eqb byte space) (λ ends. rw (word-ends byte bytes ends, rest-begins byte bytes ends))
-    (λ goes_on. rw (word-goes-on byte bytes goes_on, rest-later byte bytes goes_on)
-    (rest-dropped bytes (let longer = rw (word-goes-on byte bytes goes_on) at inside in omega arith)))
+pub rest-dropped : (line : List ℕ) → drop (word_end line + 1) line ≡ rest_of line
+unfolding rest_of
+rest-dropped [] = refl
+rest-dropped (byte ∷ bytes) =
+    by-test (eqb byte space) (λ ends. rw (rest-begins byte bytes ends, ends))
+    (λ goes_on. rw (rest-later byte bytes goes_on, goes_on)
+    (subst (λ end. drop (end + 1) (byte ∷ bytes) ≡ rest_of bytes) (one-more bytes)
+    (rw (add-one (suc (word_end bytes))) (rw (add-one (word_end bytes)) at (rest-dropped bytes)))))
 
--- a line that is one word has nothing behind it
-pub no-rest : (line : List ℕ) → length line ≤ length (first_word line) → rest_of line ≡ []
-unfolding first_word rest_of
-no-rest [] over = refl
-no-rest (byte ∷ bytes) over =
-    by-test (eqb byte space)
-    (λ ends. let none = rw (word-ends byte bytes ends) at over in absurd (omega arith))
-    (λ goes_on. rest-later byte bytes goes_on ∙ no-rest bytes (let longer = rw (word-goes-on byte bytes goes_on) at over in omega arith))
+-- ---- as a line is cut, where its first space was looked for
 
--- ---- the two parts, as they are cut from a line at its word's length
+module _ (line : List ℕ) where
+  abbrev pub found : Option ℕ
+  found = position is_space line
 
-module _ (line : List ℕ) (end : ℕ) (end-so : end ≡ length (first_word line)) where
-  pub cut_fits : end ≡ length (take end line)
-  cut_fits = rw (end-so, word-taken line)
+  module _ (end : ℕ) (found-so : Some end ≡ found) where
+    pub found-end : (end ≡ word_end line) × (end < length line)
+    found-end =
+        by-test (ltb (word_end line) (length line)) (λ inside.
+        let so = rw inside at found-so in
+        let within = ltb-true (word_end line) (length line) inside in
+        let e : end ≡ word_end line = cc in (e, omega arith))
+        (λ none. let h = rw none at found-so in absurd cc)
 
-  pub cut_word : take end line ≡ first_word line
-  cut_word = rw (end-so) (word-taken line)
+    pub found-word : take end line ≡ first_word line
+    found-word = rw found-end.0 (word-taken line)
 
-  pub end-within : end ≤ length line
-  end-within = omega (arith, word-within line)
+    pub found-rest : take (length line - (end + 1)) (drop (end + 1) line) ≡ rest_of line
+    found-rest =
+        take_all (length line - (end + 1)) (drop (end + 1) line) (omega (arith, length-drop (end + 1) line)) ∙ rw found-end.0 (rest-dropped line)
 
-  -- what is left of the length is all of it
-  all-dropped : (from : ℕ) → take (length line - from) (drop from line) ≡ drop from line
-  all-dropped from = take_all (length line - from) (drop from line) (omega (arith, length-drop from line))
+  module _ (none : None ≡ found) where
+    pub no-end : length line ≤ word_end line
+    no-end =
+        by-test (ltb (word_end line) (length line)) (λ inside. let h = rw inside at none in absurd cc)
+        (λ over. ltb-false (word_end line) (length line) over)
 
-  pub cut-none : length line ≤ end → take (length line - end) (drop end line) ≡ rest_of line
-  cut-none over = all-dropped end ∙ drop_of_length-le line over ∙ sym (no-rest line (omega arith))
+    pub whole-word : line ≡ first_word line
+    whole-word = sym (take_all (word_end line) line no-end) ∙ word-taken line
 
-  pub cut-rest : end < length line → take (length line - (end + 1)) (drop (end + 1) line) ≡ rest_of line
-  cut-rest inside = all-dropped (end + 1) ∙ rw (add-one end, end-so) (rest-dropped line (omega arith))
+    pub no-rest : take (length line - length line) (drop (length line) line) ≡ rest_of line
+    no-rest =
+        take_all (length line - length line) (drop (length line) line) (omega (arith, length-drop (length line) line))
+        ∙ drop_of_length-le line (omega arith) ∙ sym (drop_of_length-le line (omega (arith, no-end))) ∙ rest-dropped line

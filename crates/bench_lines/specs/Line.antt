@@ -1,13 +1,15 @@
 -- What a line of the bench means. "a player (p, a0 to a2, b1 to b3, l), a space, 72 hex digits (either case, here and below)"; "A line `s1 INST FLOOR VALUE` (s1 to s3; two
 -- decimal 32-bit numbers, 32 hex digits) starts that backup"; "A line of another form prints `? bad -`." A line is a list of bytes, without its newline.
 -- Assumes nothing.
-use Rattle.std.specs.Prelude.{ℕ, ◌+◌, ◌-◌, ◌*◌, Bool, true, false, ◌&&◌, not, List, [], ◌∷◌, eqb, leb, ltb, length, get_or}
+use Rattle.std.specs.Prelude.{ℕ, ◌+◌, ◌-◌, ◌*◌, Bool, true, ◌&&◌, Option, Some, None, unwrap_or, List, [], ◌∷◌, eqb, leb, ltb, length, get_or}
 use Rattle.numbers.specs.BigEndian.{number_at}
 use Rattle.basics.specs.Ladder.{when◌then◌else◌, need◌or◌then◌}
 use Rattle.basics.specs.Values.{the_value}
 use Rattle.basics.specs.declared.Value.{Value}
+use Rattle.bench_lines.specs.declared.Player.{Player}
+use Rattle.bench_lines.specs.declared.Player.TheVariants.{Primary, Acceptor, Backup, Learner}
 use Rattle.bench_lines.specs.declared.Command.{Command}
-use Rattle.bench_lines.specs.declared.Command.TheVariants.{Primary, Acceptor, Backup, Learner, Start, Bad}
+use Rattle.bench_lines.specs.declared.Command.TheVariants.{Packet, Start}
 
 -- ---- the bytes that have a meaning, besides digits
 
@@ -47,13 +49,17 @@ rest_of (byte ∷ bytes) = when eqb byte space then bytes else rest_of bytes
 
 -- ---- digits
 
--- 0 to 9, A to F, a to f: a hex digit's number, of either case; 16 for any other byte.
-unfoldable pub digit_of : (byte : ℕ) → ℕ
-digit_of byte =
-    when leb 48 byte && leb byte 57 then byte - 48
-    else when leb 65 byte && leb byte 70 then byte - 65 + 10
-    else when leb 97 byte && leb byte 102 then byte - 97 + 10
-    else 16
+-- 0 to 9, A to F, a to f: a hex digit's number, of either case.
+unfoldable pub digit_in : (byte : ℕ) → Option ℕ
+digit_in byte =
+    when leb 48 byte && leb byte 57 then Some (byte - 48)
+    else when leb 65 byte && leb byte 70 then Some (byte - 65 + 10)
+    else when leb 97 byte && leb byte 102 then Some (byte - 97 + 10)
+    else None
+
+-- The same, and 16 for any other byte.
+abbrev pub digit_of : (byte : ℕ) → ℕ
+digit_of byte = unwrap_or (digit_in byte) 16
 
 -- Each byte is a digit of the base.
 unfoldable pub are_digits : (base : ℕ) → (text : List ℕ) → Bool
@@ -70,6 +76,10 @@ bytes_of [] = []
 bytes_of (high ∷ []) = []
 bytes_of (high ∷ low ∷ others) = (digit_of high * 16 + digit_of low) ∷ bytes_of others
 
+-- So many bytes, of two hex digits each.
+unfoldable pub hex_in : (count : ℕ) → (text : List ℕ) → Option (List ℕ)
+hex_in count text = need is_hex (2 * count) text or None then Some (bytes_of text)
+
 -- A number that goes on with decimal digits.
 unfoldable pub number_from : (number : ℕ) → (text : List ℕ) → ℕ
 number_from number [] = number
@@ -82,9 +92,17 @@ number_of text = number_from 0 text
 unfoldable pub is_decimal : (text : List ℕ) → Bool
 is_decimal text = (leb 1 (length text) && leb (length text) 10) && (are_digits 10 text && leb (number_of text) 4294967295)
 
--- The value of 32 hex digits: 16 bytes, as two big-endian halves.
+-- The number of a text that is one.
+unfoldable pub decimal_in : (text : List ℕ) → Option ℕ
+decimal_in text = need is_decimal text or None then Some (number_of text)
+
+-- 16 bytes, as two big-endian halves.
+abbrev pub value_from : (bytes : List ℕ) → Value
+value_from bytes = the_value (number_at bytes 0 8) (number_at bytes 8 8)
+
+-- The value of 32 hex digits.
 abbrev pub value_of : (text : List ℕ) → Value
-value_of text = the_value (number_at (bytes_of text) 0 8) (number_at (bytes_of text) 8 8)
+value_of text = value_from (bytes_of text)
 
 -- ---- names
 
@@ -100,67 +118,51 @@ own_of name = digit_of (get_or name 1 0)
 unfoldable pub is_numbered : (letter first last : ℕ) → (name : List ℕ) → Bool
 is_numbered letter first last name = eqb (length name) 2 && eqb (get_or name 0 0) letter && leb first (own_of name) && leb (own_of name) last
 
--- p, a0 to a2, b1 to b3, l
-unfoldable pub player_of : (name : List ℕ) → Command
-player_of name =
-    when is_letter primary_letter name then Primary
-    else when is_numbered acceptor_letter 0 2 name then Acceptor (own_of name)
-    else when is_numbered backup_letter 1 3 name then Backup (own_of name)
-    else when is_letter learner_letter name then Learner
-    else Bad
+-- The number of a digit, if it is one of these.
+unfoldable pub number_within : (first last : ℕ) → (byte : ℕ) → Option ℕ
+number_within first last byte = need leb first (digit_of byte) && leb (digit_of byte) last or None then Some (digit_of byte)
 
-unfoldable pub is_bad : Command → Bool
-is_bad Bad = true
-is_bad Primary = false
-is_bad (Acceptor own) = false
-is_bad (Backup own) = false
-is_bad Learner = false
-is_bad (Start own instance floor value) = false
+-- p, a0 to a2, b1 to b3, l
+unfoldable pub player_of : (name : List ℕ) → Option Player
+player_of name =
+    when is_letter primary_letter name then Some Primary
+    else when is_numbered acceptor_letter 0 2 name then Some (Acceptor (own_of name))
+    else when is_numbered backup_letter 1 3 name then Some (Backup (own_of name))
+    else when is_letter learner_letter name then Some Learner
+    else None
 
 -- ---- lines
 
 -- s1 to s3, two decimal 32-bit numbers, 32 hex digits.
-unfoldable pub start_with : (name instance floor value : List ℕ) → Command
+unfoldable pub start_with : (name instance floor value : List ℕ) → Option Command
 start_with name instance floor value =
-    need is_numbered start_letter 1 3 name or Bad then
-    need is_decimal instance or Bad then
-    need is_decimal floor or Bad then
-    need is_hex 32 value or Bad then
-    Start (own_of name) (number_of instance) (number_of floor) (value_of value)
+    need is_numbered start_letter 1 3 name or None then
+    need is_decimal instance or None then
+    need is_decimal floor or None then
+    need is_hex 32 value or None then
+    Some (Start (own_of name) (number_of instance) (number_of floor) (value_of value))
 
 -- Behind the name stand the words `INST FLOOR VALUE`.
-unfoldable pub start_of : (name rest : List ℕ) → Command
+unfoldable pub start_of : (name rest : List ℕ) → Option Command
 start_of name rest = start_with name (first_word rest) (first_word (rest_of rest)) (rest_of (rest_of rest))
 
--- What a line asks for, and what then stands in the buffer that is lent with it.
-pub record Meaning : Type 0 where
-  pub command : Command
-  pub packet : List ℕ
+-- A player is given 72 hex digits, whose bytes are the packet; what has another name may be a start.
+unfoldable pub command_for : (named : Option Player) → (name rest : List ℕ) → Option Command
+command_for (Some player) name rest = need is_hex 72 rest or None then Some (Packet player (bytes_of rest))
+command_for None name rest = start_of name rest
 
-abbrev pub meaning : Command → (packet : List ℕ) → Meaning
-meaning command packet = record { command = command; packet = packet }
+-- What a line asks for: nothing where it has another form.
+unfoldable pub command_of : (line : List ℕ) → Option Command
+command_of line = command_for (player_of (first_word line)) (first_word line) (rest_of line)
 
--- A player, a space, 72 hex digits: their bytes are the packet. A start, or a line of another form, leaves the buffer as it was.
-unfoldable pub meaning_of : (line buffer : List ℕ) → Meaning
-meaning_of line buffer =
-    let name = first_word line in
-    let rest = rest_of line in
-    need not (is_bad (player_of name)) or meaning (start_of name rest) buffer then
-    need is_hex 72 rest or meaning Bad buffer then
-    meaning (player_of name) (bytes_of rest)
+-- What stands in a buffer that a line's packet is put into: a start, or a line of another form, leaves it as it was.
+unfoldable pub buffer_after : (asked : Option Command) → (buffer : List ℕ) → List ℕ
+buffer_after (Some (Packet player packet)) buffer = packet
+buffer_after (Some (Start own instance floor value)) buffer = buffer
+buffer_after None buffer = buffer
 
 -- ---- lines of a delivered list, a value to each
 
--- Whether a line is a value, and what then stands in the buffer that is lent with it.
-pub record Listed : Type 0 where
-  pub is_value : Bool
-  pub buffer : List ℕ
-
-abbrev pub listed : (is_value : Bool) → (buffer : List ℕ) → Listed
-listed is_value buffer = record { is_value = is_value; buffer = buffer }
-
--- 32 hex digits: their bytes. A line of another form leaves the buffer as it was.
-unfoldable pub listed_in : (line buffer : List ℕ) → Listed
-listed_in line buffer =
-    need is_hex 32 line or listed false buffer then
-    listed true (bytes_of line)
+-- 32 hex digits: their bytes.
+abbrev pub listed_in : (line : List ℕ) → Option (List ℕ)
+listed_in line = hex_in 16 line

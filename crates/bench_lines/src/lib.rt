@@ -1,244 +1,171 @@
 // What a line of the bench means: a packet for a player, or the start of a backup. A line is words with a space behind each but the last.
 #![tactic(auto)]
 
-ghost use Rattle.std.specs.Prelude.{◌≡◌, true, ◌*◌, ◌≤◌, length};
-ghost use Rattle.bench_lines.specs.Line.{first_word, rest_of, digit_of, are_digits, is_hex, bytes_of, number_of, is_decimal, value_of};
-ghost use Rattle.bench_lines.specs.Line.{is_letter, is_numbered, own_of, is_bad, player_of, start_with, start_of, meaning, meaning_of, listed, listed_in};
+ghost use Rattle.std.specs.Prelude.{◌≡◌, ◌≤◌, ◌==◌, position};
+ghost use Rattle.bench_lines.specs.Line.{space, first_word, rest_of, digit_in, hex_in, decimal_in};
+ghost use Rattle.bench_lines.specs.Line.{number_within, value_from, player_of, start_of, command_of, listed_in};
 
 use basics::Value;
 
-// What a line asks for. The bytes of a packet stand in the buffer that was lent with the line.
+/// Who a packet is for.
 #[derive(Clone, Copy)]
-pub enum Command {
+pub enum Player {
     Primary,
     Acceptor(u32),
     Backup(u32),
     Learner,
+}
+
+/// What a line asks for.
+#[derive(Clone, Copy)]
+pub enum Command {
+    Packet {
+        player: Player,
+        packet: [u8; 36],
+    },
     Start {
         own: u32,
         instance: u32,
         floor: u32,
         value: Value,
     },
-    Bad,
 }
 
 // ---- words
 
-fn word_length(line: &[u8]) -> usize
-    ensures { result ≡ length (first_word line.now) }
+// Where the first word ends, if a space ends it.
+fn first_space(line: &[u8]) -> Option<usize>
+    ensures { result ≡ position (λ byte. byte == space) line.now }
 {
-    let mut place = 0;
-    while place < line.len() {
-        if line[place] == b' ' {
-            return place;
-        }
-        place += 1;
-    }
-    place
+    line.iter().position(|byte| *byte == b' ')
 }
 
-fn first_word(line: &[u8]) -> &[u8]
-    ensures { result.now ≡ first_word line.now }
+// The first word, and what stands behind its space: nothing where there is none.
+fn split_word(line: &[u8]) -> (&[u8], &[u8])
+    ensures word { result.0.now ≡ first_word line.now }
+    ensures rest { result.1.now ≡ rest_of line.now }
 {
-    let end = word_length(line);
-    &line[..end]
-}
-
-// The first space is left out.
-fn rest_of(line: &[u8]) -> &[u8]
-    ensures { result.now ≡ rest_of line.now }
-{
-    let end = word_length(line);
-    if line.len() <= end {
-        return &line[end..];
+    match first_space(line) {
+        Some(end) => (&line[..end], &line[end + 1..]),
+        None => (line, &line[line.len()..]),
     }
-    let from = end + 1;
-    &line[from..]
 }
 
 // ---- digits
 
-// A hex digit's number, of either case; 16 for any other byte.
-fn digit(byte: u8) -> u8
-    ensures { result ≡ digit_of byte }
+// A hex digit's number, of either case.
+fn digit(byte: u8) -> Option<u8>
+    ensures { result ≡ digit_in byte }
 {
-    if (b'0' <= byte) & (byte <= b'9') {
-        return byte - b'0';
-    }
-    if (b'A' <= byte) & (byte <= b'F') {
-        return byte - b'A' + 10;
-    }
-    if (b'a' <= byte) & (byte <= b'f') {
-        return byte - b'a' + 10;
-    }
-    16
-}
-
-fn are_digits(base: u8, text: &[u8]) -> bool
-    ensures { result ≡ are_digits base text.now }
-{
-    for index in 0..text.len() {
-        if base <= digit(text[index]) {
-            return false;
-        }
-    }
-    true
-}
-
-fn is_hex(count: usize, text: &[u8]) -> bool
-    ensures { result ≡ is_hex count text.now }
-{
-    (text.len() == count) & are_digits(16, text)
-}
-
-fn put_bytes(text: &[u8], bytes: &mut [u8])
-    requires { (length text.now ≡ 2 * length bytes.old) × (are_digits 16 text.now ≡ true) }
-    ensures { bytes.new ≡ bytes_of text.now }
-{
-    for index in 0..bytes.len() {
-        bytes[index] = digit(text[2 * index]) * 16 + digit(text[2 * index + 1]);
+    match byte {
+        b'0'..=b'9' => Some(byte - b'0'),
+        b'A'..=b'F' => Some(byte - b'A' + 10),
+        b'a'..=b'f' => Some(byte - b'a' + 10),
+        _ => None,
     }
 }
 
-fn number_of(text: &[u8]) -> u64
-    requires { length text.now ≤ 10 }
-    ensures { result ≡ number_of text.now }
+// Two hex digits to a byte.
+fn hex_in<const N: usize>(text: &[u8]) -> Option<[u8; N]>
+    requires { N ≤ 36 }
+    ensures { result ≡ hex_in N text.now }
 {
+    if text.len() != 2 * N {
+        return None;
+    }
+    let mut bytes = [0; N];
+    for index in 0..N {
+        bytes[index] = digit(text[2 * index])? * 16 + digit(text[2 * index + 1])?;
+    }
+    Some(bytes)
+}
+
+// One to ten digits, and at most 4,294,967,295.
+fn decimal_in(text: &[u8]) -> Option<u32>
+    ensures { result ≡ decimal_in text.now }
+{
+    let 1..=10 = text.len() else {
+        return None;
+    };
     let mut number: u64 = 0;
-    for index in 0..text.len() {
-        number = number * 10 + (digit(text[index]) as u64);
+    for byte in text {
+        let digit = digit(*byte)?;
+        if 10 <= digit {
+            return None;
+        }
+        number = number * 10 + u64::from(digit);
     }
-    number
-}
-
-fn is_decimal(text: &[u8]) -> bool
-    ensures { result ≡ is_decimal text.now }
-{
-    if !((1 <= text.len()) & (text.len() <= 10)) {
-        return false;
-    }
-    are_digits(10, text) & (number_of(text) <= 4294967295)
+    u32::try_from(number).ok()
 }
 
 // ---- names
 
-fn is_letter(letter: u8, name: &[u8]) -> bool
-    ensures { result ≡ is_letter letter name.now }
+// The digit's number, if it is one of these.
+fn number_within(first: u32, last: u32, byte: u8) -> Option<u32>
+    requires { last ≤ 9 }
+    ensures { result ≡ number_within first last byte }
 {
-    (name.len() == 1) & (columns::byte_at(name, 0) == letter)
+    let number = u32::from(digit(byte)?);
+    ((first <= number) & (number <= last)).then_some(number)
 }
 
-fn own_of(name: &[u8]) -> u32
-    ensures { result ≡ own_of name.now }
-{
-    digit(columns::byte_at(name, 1)) as u32
-}
-
-fn is_numbered(letter: u8, first: u32, last: u32, name: &[u8]) -> bool
-    ensures { result ≡ is_numbered letter first last name.now }
-{
-    let own = own_of(name);
-    (name.len() == 2) & (columns::byte_at(name, 0) == letter) & (first <= own) & (own <= last)
-}
-
-fn player_of(name: &[u8]) -> Command
+fn player_of(name: &[u8]) -> Option<Player>
     ensures { result ≡ player_of name.now }
 {
-    if is_letter(b'p', name) {
-        return Command::Primary;
-    }
-    if is_numbered(b'a', 0, 2, name) {
-        return Command::Acceptor(own_of(name));
-    }
-    if is_numbered(b'b', 1, 3, name) {
-        return Command::Backup(own_of(name));
-    }
-    if is_letter(b'l', name) {
-        return Command::Learner;
-    }
-    Command::Bad
-}
-
-fn is_bad(command: Command) -> bool
-    ensures { result ≡ is_bad command }
-{
-    if let Command::Bad = command {
-        true
-    } else {
-        false
+    match name {
+        [b'p'] => Some(Player::Primary),
+        [b'a', number] => Some(Player::Acceptor(number_within(0, 2, *number)?)),
+        [b'b', number] => Some(Player::Backup(number_within(1, 3, *number)?)),
+        [b'l'] => Some(Player::Learner),
+        _ => None,
     }
 }
 
 // ---- lines
 
+fn value_from(bytes: [u8; 16]) -> Value
+    ensures { result ≡ value_from bytes }
+{
+    Value {
+        high: numbers::read(&bytes, 0),
+        low: numbers::read(&bytes, 8),
+    }
+}
+
 // `s1 INST FLOOR VALUE`
-fn start_of(name: &[u8], rest: &[u8]) -> Command
+fn start_of(name: &[u8], rest: &[u8]) -> Option<Command>
     ensures { result ≡ start_of name.now rest.now }
 {
-    let behind = rest_of(rest);
-    start_with(name, first_word(rest), first_word(behind), rest_of(behind))
+    let [b's', number] = name else {
+        return None;
+    };
+    let (instance, behind) = split_word(rest);
+    let (floor, value) = split_word(behind);
+    Some(Command::Start {
+        own: number_within(1, 3, *number)?,
+        instance: decimal_in(instance)?,
+        floor: decimal_in(floor)?,
+        value: value_from(hex_in(value)?),
+    })
 }
 
-fn start_with(name: &[u8], instance: &[u8], floor: &[u8], value: &[u8]) -> Command
-    ensures { result ≡ start_with name.now instance.now floor.now value.now }
+/// A player, a space, 72 hex digits; or a start. A line of another form is no command.
+pub fn command_of(line: &[u8]) -> Option<Command>
+    ensures { result ≡ command_of line.now }
 {
-    if !is_numbered(b's', 1, 3, name) {
-        return Command::Bad;
-    }
-    if !is_decimal(instance) {
-        return Command::Bad;
-    }
-    if !is_decimal(floor) {
-        return Command::Bad;
-    }
-    if !is_hex(32, value) {
-        return Command::Bad;
-    }
-    started(own_of(name), instance, floor, value)
-}
-
-fn started(own: u32, instance: &[u8], floor: &[u8], value: &[u8]) -> Command
-    requires { (is_decimal instance.now ≡ true) × ((is_decimal floor.now ≡ true) × (is_hex 32 value.now ≡ true)) }
-    ensures { result ≡ Command.Start own (number_of instance.now) (number_of floor.now) (value_of value.now) }
-{
-    let mut bytes = [0u8; 16];
-    put_bytes(value, &mut bytes);
-    Command::Start {
-        own,
-        instance: number_of(instance) as u32,
-        floor: number_of(floor) as u32,
-        value: Value {
-            high: numbers::read_u64(&bytes, 0),
-            low: numbers::read_u64(&bytes, 8),
-        },
+    let (name, rest) = split_word(line);
+    match player_of(name) {
+        Some(player) => Some(Command::Packet {
+            player,
+            packet: hex_in(rest)?,
+        }),
+        None => start_of(name, rest),
     }
 }
 
-// A player, a space, 72 hex digits; or a start.
-pub fn command_of(line: &[u8], packet: &mut [u8; 36]) -> Command
-    ensures { meaning result packet.new ≡ meaning_of line.now packet.old }
+/// A line of a delivered list that is written out: 32 hex digits are a value, of 16 bytes.
+pub fn value_in(line: &[u8]) -> Option<[u8; 16]>
+    ensures { result ≡ listed_in line.now }
 {
-    let name = first_word(line);
-    let rest = rest_of(line);
-    let player = player_of(name);
-    if is_bad(player) {
-        return start_of(name, rest);
-    }
-    if !is_hex(72, rest) {
-        return Command::Bad;
-    }
-    put_bytes(rest, packet);
-    player
-}
-
-// A line of a delivered list that is written out: 32 hex digits are a value, and its bytes go to the buffer.
-pub fn value_in(line: &[u8], value: &mut [u8; 16]) -> bool
-    ensures { listed result value.new ≡ listed_in line.now value.old }
-{
-    if !is_hex(32, line) {
-        return false;
-    }
-    put_bytes(line, value);
-    true
+    hex_in(line)
 }

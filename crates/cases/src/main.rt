@@ -2,126 +2,134 @@
 // answer. The starred ones are proved, in proved_cases, and so are those of holes and of rounds.
 #![tactic(auto)]
 
-use basics::{Instance, Round, Value};
+use basics::{Instance, Refusal, Round, Value};
 use learner_cell::Cell;
-use learner_holes::Hole;
+use learner_tables::SharedTables;
 use messages::Message;
 use quorum::Settings;
 use std::io;
 
+const SETTINGS: Settings = Settings {
+    acceptors: 3,
+    instances: 8,
+};
+
+// A value ending in 2a, other bytes zero.
+const VALUE: Value = Value { high: 0, low: 42 };
+
 fn main(rt: HostRuntime) -> io::Result<()> {
-    print(&rt, b"instance 7: ", propose_to_acceptor(7))?;
-    print(&rt, b"instance 8: ", propose_to_acceptor(8))?;
-    print(&rt, b"35 bytes: ", packet_of_35_bytes())?;
-    print(&rt, b"37 bytes: ", packet_of_37_bytes())?;
+    println!(rt; "instance 7: {}", propose_to_acceptor(7))?;
+    println!(rt; "instance 8: {}", propose_to_acceptor(8))?;
+    println!(rt; "35 bytes: {}", give_to_fresh_acceptor(&mut [0; 35]))?;
+    println!(rt; "37 bytes: {}", give_to_fresh_acceptor(&mut [0; 37]))?;
     requests_for_one_instance(&rt)?;
     first_holes(&rt)?;
     owners_and_next_rounds(&rt)
 }
 
-fn print(rt: &impl Print, name: &[u8], answer: u32) -> io::Result<()> {
-    rt.write_all(name)?;
-    println!(rt; "{answer}")
-}
-
-// A value ending in 2a, other bytes zero.
-fn propose(instance: u32) -> Message {
-    Message::Propose {
-        instance: Instance(instance),
-        round: Round(0),
-        value: Value { high: 0, low: 42 },
-    }
+fn packet_of(message: Message) -> [u8; 36] {
+    let mut packet = [0; 36];
+    wire::put_message(&mut packet, message);
+    packet
 }
 
 fn give_to_fresh_acceptor(packet: &mut [u8]) -> u32 {
-    let mut rounds = [0u32; 8];
-    let mut vote_rounds = [basics::NONE; 8];
-    let mut values = [0u64; 16];
-    acceptor::myrthakel_acceptor_step(3, 8, 0, packet, &mut rounds, &mut vote_rounds, &mut values)
+    let mut tables = acceptor_tables::Tables {
+        rounds: &mut [0; 8],
+        vote_rounds: &mut [basics::NONE; 8],
+        values: &mut [0; 16],
+    };
+    basics::answer_number(acceptor::step(SETTINGS, 0, packet, &mut tables))
 }
 
 fn propose_to_acceptor(instance: u32) -> u32 {
-    let mut packet = [0u8; 36];
-    wire::put_message(&mut packet, propose(instance));
-    give_to_fresh_acceptor(&mut packet)
-}
-
-fn packet_of_35_bytes() -> u32 {
-    let mut packet = [0u8; 35];
-    give_to_fresh_acceptor(&mut packet)
-}
-
-fn packet_of_37_bytes() -> u32 {
-    let mut packet = [0u8; 37];
-    give_to_fresh_acceptor(&mut packet)
+    give_to_fresh_acceptor(&mut packet_of(Message::Propose {
+        instance: Instance(instance),
+        round: Round(0),
+        value: VALUE,
+    }))
 }
 
 fn requests_for_one_instance(rt: &impl Print) -> io::Result<()> {
-    let mut next = [0u32; 1];
-    let request = Message::Request {
-        switch: 9,
-        value: Value { high: 0, low: 42 },
+    let settings = Settings {
+        acceptors: 3,
+        instances: 1,
     };
-    let mut packet = [0u8; 36];
-    wire::put_message(&mut packet, request);
-    print(
-        rt,
-        b"N = 1, first request: ",
-        primary::myrthakel_primary_step(3, 1, &mut packet, &mut next),
-    )?;
-    wire::put_message(&mut packet, request);
-    print(
-        rt,
-        b"N = 1, second request: ",
-        primary::myrthakel_primary_step(3, 1, &mut packet, &mut next),
-    )
+    let mut next = [0; 1];
+    for name in ["first", "second"] {
+        let mut packet = packet_of(Message::Request {
+            switch: 9,
+            value: VALUE,
+        });
+        let answer = primary::step_slice(settings, &mut packet, &mut next);
+        println!(rt; "N = 1, {name} request: {}", basics::answer_number(answer))?;
+    }
+    Ok(())
 }
+
+// ---- holes
 
 // By M, the sets of cells 0 to 7, a digit each, and the value voted for: a vote is 1, two are 3, three are 7.
 fn first_holes(rt: &impl Print) -> io::Result<()> {
-    // all fresh
-    print_hole_of(rt, 3, 0x0000_0000, 42)?;
-    // 1 vote in 0
-    print_hole_of(rt, 3, 0x1000_0000, 42)?;
-    // 0 and 1 decided, one vote in 2
-    print_hole_of(rt, 3, 0x3310_0000, 42)?;
-    // 5 untouched, one vote in 6, nothing decided; 6 decided, and those before 5
-    print_hole_of(rt, 3, 0x0000_0010, 42)?;
-    print_hole_of(rt, 3, 0x3333_3030, 42)?;
-    // 0 and 2 decided, 1 untouched, one vote in 3
-    print_hole_of(rt, 3, 0x3031_0000, 42)?;
-    // 0 untouched, one vote in 1, 3 decided
-    print_hole_of(rt, 3, 0x0103_0000, 42)?;
-    // all but 7 decided, one vote in 7
-    print_hole_of(rt, 3, 0x3333_3331, 42)?;
-    // all decided
-    print_hole_of(rt, 3, 0x3333_3333, 42)?;
+    let of_eight = [
+        // all fresh
+        (3, 0x0000_0000, 42),
+        // 1 vote in 0
+        (3, 0x1000_0000, 42),
+        // 0 and 1 decided, one vote in 2
+        (3, 0x3310_0000, 42),
+        // 5 untouched, one vote in 6, nothing decided; 6 decided, and those before 5
+        (3, 0x0000_0010, 42),
+        (3, 0x3333_3030, 42),
+        // 0 and 2 decided, 1 untouched, one vote in 3
+        (3, 0x3031_0000, 42),
+        // 0 untouched, one vote in 1, 3 decided
+        (3, 0x0103_0000, 42),
+        // all but 7 decided, one vote in 7
+        (3, 0x3333_3331, 42),
+        // all decided
+        (3, 0x3333_3333, 42),
+    ];
+    for (acceptors, sets, low) in of_eight {
+        print_hole_of(rt, acceptors, sets, low)?;
+    }
     // N = 1, one vote; decided
     print_hole_of_one(rt, 1, 42)?;
     print_hole_of_one(rt, 3, 42)?;
-    // M = 5, two votes in 0; three votes in 0
-    print_hole_of(rt, 5, 0x3000_0000, 42)?;
-    print_hole_of(rt, 5, 0x7000_0000, 42)?;
-    // a vote for null, one of three, in 0
-    print_hole_of(rt, 3, 0x1000_0000, 0)
+    let others = [
+        // M = 5, two votes in 0; three votes in 0
+        (5, 0x3000_0000, 42),
+        (5, 0x7000_0000, 42),
+        // a vote for null, one of three, in 0
+        (3, 0x1000_0000, 0),
+    ];
+    for (acceptors, sets, low) in others {
+        print_hole_of(rt, acceptors, sets, low)?;
+    }
+    Ok(())
 }
 
 fn print_hole_of(rt: &impl Print, acceptors: u32, digits: u32, low: u64) -> io::Result<()> {
-    let mut rounds = [0u32; 8];
-    let mut sets = [0u8; 8];
-    let mut values = [0u64; 16];
-    store_cells(&mut rounds, &mut sets, &mut values, digits, low);
+    let mut rounds = [0; 8];
+    let mut sets = [0; 8];
+    let mut values = [0; 16];
+    let mut tables = learner_tables::Tables {
+        rounds: &mut rounds,
+        sets: &mut sets,
+        values: &mut values,
+    };
+    store_cells(&mut tables, digits, low);
     let settings = Settings {
         acceptors,
         instances: 8,
     };
-    print!(rt; "sets {digits:08x}")?;
-    print_hole(
-        rt,
-        low,
-        acceptors,
-        learner_holes::find_hole(settings, &rounds, &sets, &values),
-    )
+    let tables = SharedTables {
+        rounds: &rounds,
+        sets: &sets,
+        values: &values,
+    };
+    print!(rt; "sets {digits:08x} for value {low}, M = {acceptors}")?;
+    print_hole(rt, learner_holes::find_hole(settings, &tables))
 }
 
 fn print_hole_of_one(rt: &impl Print, set: u8, low: u64) -> io::Result<()> {
@@ -129,30 +137,28 @@ fn print_hole_of_one(rt: &impl Print, set: u8, low: u64) -> io::Result<()> {
         acceptors: 3,
         instances: 1,
     };
-    print!(rt; "one set {set:x}")?;
-    print_hole(
-        rt,
-        low,
-        3,
-        learner_holes::find_hole(settings, &[0], &[set], &[0, low]),
-    )
+    let tables = SharedTables {
+        rounds: &[0],
+        sets: &[set],
+        values: &[0, low],
+    };
+    print!(rt; "one set {set:x} for value {low}, M = 3")?;
+    print_hole(rt, learner_holes::find_hole(settings, &tables))
 }
 
-fn print_hole(rt: &impl Print, low: u64, acceptors: u32, hole: Hole) -> io::Result<()> {
-    print!(rt; " for value {low}, M = {acceptors}")?;
+fn print_hole(rt: &impl Print, hole: Result<Option<Instance>, Refusal>) -> io::Result<()> {
     match hole {
-        Hole::Found(instance) => print(rt, b", first hole: ", instance.0),
-        Hole::Refused(number) => print(rt, b", refused: ", number),
-        Hole::NoHole => rt.write_all(b", no hole\n"),
+        Ok(Some(instance)) => println!(rt; ", first hole: {}", instance.0),
+        Ok(None) => println!(rt; ", no hole"),
+        Err(refusal) => println!(rt; ", refused: {}", basics::refusal_number(refusal)),
     }
 }
 
 // The last digit is cell 7's.
-fn store_cells(rounds: &mut [u32], sets: &mut [u8], values: &mut [u64], digits: u32, low: u64) {
+fn store_cells(tables: &mut learner_tables::Tables<'_>, digits: u32, low: u64) {
     let mut left = digits;
-    for place in 0..8 {
-        let cell = cell_of((left % 16) as u8, low);
-        learner_tables::store_cell(rounds, sets, values, 7 - place, cell);
+    for place in (0..8).rev() {
+        tables.store_cell(place, cell_of((left % 16) as u8, low));
         left /= 16;
     }
 }
@@ -169,58 +175,60 @@ fn cell_of(set: u8, low: u64) -> Cell {
     }
 }
 
+// ---- rounds
+
 // The least numbers, with a round of nobody's among them, and the last ones, with none at the end.
+const ROUNDS: [u32; 11] = [
+    0,
+    1,
+    2,
+    3,
+    4,
+    4294967288,
+    4294967290,
+    4294967291,
+    4294967293,
+    4294967294,
+    basics::NONE,
+];
+
 fn owners_and_next_rounds(rt: &impl Print) -> io::Result<()> {
-    print_round(rt, 0)?;
-    print_round(rt, 1)?;
-    print_round(rt, 2)?;
-    print_round(rt, 3)?;
-    print_round(rt, 4)?;
-    print_round(rt, 4294967288)?;
-    print_round(rt, 4294967290)?;
-    print_round(rt, 4294967291)?;
-    print_round(rt, 4294967293)?;
-    print_round(rt, 4294967294)?;
-    print_round(rt, basics::NONE)
-}
-
-fn print_round(rt: &impl Print, number: u32) -> io::Result<()> {
-    print!(rt; "round {number}")?;
-    print_owner(rt, basics::owner(Round(number)))?;
-    rt.write_all(b", next of 1, 2, 3:")?;
-    print_next(rt, 1, number)?;
-    print_next(rt, 2, number)?;
-    print_next(rt, 3, number)?;
-    rt.write_all(b"\n")
-}
-
-fn print_owner(rt: &impl Print, owner: u16) -> io::Result<()> {
-    if owner == basics::NOBODY {
-        return rt.write_all(b": owner nobody");
+    for number in ROUNDS {
+        print!(rt; "round {number}: owner ")?;
+        match basics::owner(Round(number)) {
+            basics::NOBODY => print!(rt; "nobody")?,
+            owner => print!(rt; "{owner}")?,
+        }
+        let first = next_round(1, number);
+        let second = next_round(2, number);
+        let third = next_round(3, number);
+        println!(rt; ", next of 1, 2, 3: {first} {second} {third}")?;
     }
-    print!(rt; ": owner {owner}")
+    Ok(())
 }
 
 // A start on a fresh cell: the round that it takes, or the refusal.
-fn print_next(rt: &impl Print, own: u32, floor: u32) -> io::Result<()> {
-    let mut packet = [0u8; 36];
-    let mut rounds = [0u32; 8];
-    let answer = backup::myrthakel_backup_start(
-        3,
-        8,
+fn next_round(own: u32, floor: u32) -> u32 {
+    let mut rounds = [0; 8];
+    let mut tables = backup_tables::Tables {
+        rounds: &mut rounds,
+        phases: &mut [0; 8],
+        sets: &mut [0; 8],
+        best_vote_rounds: &mut [basics::NONE; 8],
+        best_values: &mut [0; 16],
+        own_values: &mut [0; 16],
+    };
+    let buffer = &mut [0; 36];
+    match backup::start(
+        SETTINGS,
         own,
-        0,
+        Instance(0),
         floor,
-        0,
-        42,
-        &mut packet,
-        &mut rounds,
-        &mut [0u8; 8],
-        &mut [0u8; 8],
-        &mut [basics::NONE; 8],
-        &mut [0u64; 16],
-        &mut [0u64; 16],
-    );
-    let next = if answer == 101 { rounds[0] } else { answer };
-    print!(rt; " {next}")
+        VALUE,
+        buffer,
+        &mut tables,
+    ) {
+        Ok(_) => rounds[0],
+        Err(refusal) => basics::refusal_number(refusal),
+    }
 }

@@ -1,30 +1,18 @@
--- `bench_lines::command_of` meets its contract: the line is taken apart as in the definition, and tested in its order.
+-- `bench_lines::command_of` meets its contract: the line is cut as in the definition, and a name that is none of a player may be a start's.
 -- Assumes nothing.
-use native.Mathlib.Omega.{arith}
-use mathlib.Core.Path.{sym, ◌∙◌}
-use Rattle.bench_lines.proofs.Digits.{hex-brings}
+use mathlib.Core.Path.{◌∙◌}
 use Rattle.bench_lines.proofs.Ways.{line-starts, no-packet, packet-taken}
 use Rattle.bench_lines.proofs.command_of.Goals as goal
 
-pub returns-then-is_bad : goal.returns-then-is_bad
-returns-then-is_bad c =
-    let a = c.args in
-    line-starts a.line.now a.packet.now _ _ c.first_word-name.ensures c.rest_of-rest.ensures _ c.player_of-player.ensures _
-    c.is_bad.ensures c.if-is_bad.true _ c.start_of.ensures
+pub returns-in_err-hex_in-in-Some : goal.returns-in_err-hex_in-in-Some
+returns-in_err-hex_in-in-Some c =
+    c.from_residual.ensures
+    ∙ no-packet c.args.line.now _ _ c.split_word.ensures.word c.split_word.ensures.rest _ c.in-Some.ensures c.in_err-hex_in-in-Some.ensures
 
-pub returns-then-not-is_hex : goal.returns-then-not-is_hex
-returns-then-not-is_hex c =
-    let a = c.args in
-    no-packet a.line.now a.packet.now _ _ c.first_word-name.ensures c.rest_of-rest.ensures _ c.player_of-player.ensures _
-    c.is_bad.ensures c.if-is_bad.false _ c.is_hex.ensures c.if-not-is_hex.true
+pub returns-in_ok-hex_in-in-Some : goal.returns-in_ok-hex_in-in-Some
+returns-in_ok-hex_in-in-Some c =
+    packet-taken c.args.line.now _ _ c.split_word.ensures.word c.split_word.ensures.rest _ c.in-Some.ensures _ c.in_ok-hex_in-in-Some.ensures
 
-pub put_bytes-requires : goal.put_bytes-requires
-put_bytes-requires c =
-    let brings = hex-brings 72 _ (sym c.is_hex.ensures ∙ c.if-not-is_hex.false) in
-    (omega (arith, brings.0), brings.1)
-
-pub returns : goal.returns
-returns c =
-    let a = c.args in
-    packet-taken a.line.now a.packet.now _ _ c.first_word-name.ensures c.rest_of-rest.ensures _ c.player_of-player.ensures _
-    c.is_bad.ensures c.if-is_bad.false _ c.is_hex.ensures c.if-not-is_hex.false _ c.put_bytes.ensures
+pub returns-in-None : goal.returns-in-None
+returns-in-None c =
+    line-starts c.args.line.now _ _ c.split_word.ensures.word c.split_word.ensures.rest c.in-None.ensures _ c.start_of.ensures

@@ -1,34 +1,26 @@
--- `bench_lines::digit` meets its contract: the three ranges are tested in the definition's order.
+-- `bench_lines::digit` meets its contract: each range is the definition's, and the bytes between them are no digits.
 -- Assumes nothing.
 use native.Mathlib.Omega.{arith}
-use borrow.Author.Tests.{leb-true}
-use mathlib.Core.Path.{sym, ◌∙◌}
-use Rattle.basics.proofs.Ladder.{if-true, if-false}
-use Rattle.basics.proofs.Ladder.{both_true}
-use Rattle.bench_lines.specs.Line.{digit_of}
+use Rattle.bench_lines.proofs.Digits.{decimal-digit, upper-digit, lower-digit, no-digit}
 use Rattle.bench_lines.proofs.digit.Goals as goal
 
-pub overflow_sub-result : goal.overflow_sub-result
-overflow_sub-result c = let b = c.args.byte in omega (arith, leb-true 48 b (both_true _ _ c.if-byte.true).0)
+pub returns-in-48-to-57 : goal.returns-in-48-to-57
+returns-in-48-to-57 c = decimal-digit c.args.byte (omega arith) (omega arith)
 
-pub returns-then-byte : goal.returns-then-byte
-unfolding digit_of
-returns-then-byte c = sym (if-true _ _ c.if-byte.true)
+pub returns-in-65-to-70 : goal.returns-in-65-to-70
+returns-in-65-to-70 c = upper-digit c.args.byte (omega arith) (omega arith)
 
-pub overflow_sub-result-then-byte-2 : goal.overflow_sub-result-then-byte-2
-overflow_sub-result-then-byte-2 c = let b = c.args.byte in omega (arith, leb-true 65 b (both_true _ _ c.if-byte-2.true).0)
+pub returns-in-97-to-102 : goal.returns-in-97-to-102
+returns-in-97-to-102 c = lower-digit c.args.byte (omega arith) (omega arith)
 
-pub returns-then-byte-2 : goal.returns-then-byte-2
-unfolding digit_of
-returns-then-byte-2 c = sym (if-false _ _ c.if-byte.false ∙ if-true _ _ c.if-byte-2.true)
+pub returns-in_default : goal.returns-in_default
+returns-in_default c = no-digit c.args.byte (λ least. omega arith) (λ least. omega arith) (λ least. omega arith)
 
-pub overflow_sub-result-then-byte-3 : goal.overflow_sub-result-then-byte-3
-overflow_sub-result-then-byte-3 c = let b = c.args.byte in omega (arith, leb-true 97 b (both_true _ _ c.if-byte-3.true).0)
+pub returns-in_default-2 : goal.returns-in_default-2
+returns-in_default-2 c = no-digit c.args.byte (λ least. omega arith) (λ least. omega arith) (λ least. omega arith)
 
-pub returns-then-byte-3 : goal.returns-then-byte-3
-unfolding digit_of
-returns-then-byte-3 c = sym (if-false _ _ c.if-byte.false ∙ if-false _ _ c.if-byte-2.false ∙ if-true _ _ c.if-byte-3.true)
+pub returns-in_default-3 : goal.returns-in_default-3
+returns-in_default-3 c = no-digit c.args.byte (λ least. omega arith) (λ least. omega arith) (λ least. omega arith)
 
-pub returns : goal.returns
-unfolding digit_of
-returns c = sym (if-false _ _ c.if-byte.false ∙ if-false _ _ c.if-byte-2.false ∙ if-false _ _ c.if-byte-3.false)
+pub returns-in_default-4 : goal.returns-in_default-4
+returns-in_default-4 c = no-digit c.args.byte (λ least. omega arith) (λ least. omega arith) (λ least. omega arith)

@@ -1,27 +1,38 @@
--- `bench_lines::player_of` meets its contract: the names are tested in the definition's order.
+-- `bench_lines::player_of` meets its contract: a name's length and letter say which of the definition's tests it passes.
 -- Assumes nothing.
-use Rattle.bench_lines.proofs.Ways.{names-primary, names-acceptor, names-backup, names-learner, names-none}
+use native.Mathlib.Omega.{arith}
+use mathlib.Core.Path.{◌∙◌}
+use Rattle.bench_lines.proofs.Names.{names-primary, names-learner, names-acceptor, names-no-acceptor, names-backup, names-no-backup, names-none}
 use Rattle.bench_lines.proofs.player_of.Goals as goal
 
-pub returns-then-is_letter : goal.returns-then-is_letter
-returns-then-is_letter c = names-primary c.args.name.now _ c.is_letter.ensures c.if-is_letter.true
+pub returns-in-112 : goal.returns-in-112
+returns-in-112 c = names-primary c.args.name.now (omega arith) (omega arith)
 
-pub returns-then-is_numbered : goal.returns-then-is_numbered
-returns-then-is_numbered c =
-    names-acceptor c.args.name.now _ c.is_letter.ensures c.if-is_letter.false _ c.is_numbered.ensures
-    c.if-is_numbered.true _ c.own_of.ensures
+pub returns-in-108 : goal.returns-in-108
+returns-in-108 c = names-learner c.args.name.now (omega arith) (omega arith)
 
-pub returns-then-is_numbered-2 : goal.returns-then-is_numbered-2
-returns-then-is_numbered-2 c =
-    names-backup c.args.name.now _ c.is_letter.ensures c.if-is_letter.false _ c.is_numbered.ensures
-    c.if-is_numbered.false _ c.is_numbered-2.ensures c.if-is_numbered-2.true _ c.own_of-then-is_numbered-2.ensures
+pub returns-in_ok-number_within-in-97 : goal.returns-in_ok-number_within-in-97
+returns-in_ok-number_within-in-97 c = names-acceptor c.args.name.now (omega arith) (omega arith) _ c.in_ok-number_within-in-97.ensures
 
-pub returns-then-is_letter-2 : goal.returns-then-is_letter-2
-returns-then-is_letter-2 c =
-    names-learner c.args.name.now _ c.is_letter.ensures c.if-is_letter.false _ c.is_numbered.ensures
-    c.if-is_numbered.false _ c.is_numbered-2.ensures c.if-is_numbered-2.false _ c.is_letter-2.ensures c.if-is_letter-2.true
+pub returns-in_err-number_within-in-97 : goal.returns-in_err-number_within-in-97
+returns-in_err-number_within-in-97 c =
+    c.from_residual.ensures ∙ names-no-acceptor c.args.name.now (omega arith) (omega arith) c.in_err-number_within-in-97.ensures
 
-pub returns : goal.returns
-returns c =
-    names-none c.args.name.now _ c.is_letter.ensures c.if-is_letter.false _ c.is_numbered.ensures
-    c.if-is_numbered.false _ c.is_numbered-2.ensures c.if-is_numbered-2.false _ c.is_letter-2.ensures c.if-is_letter-2.false
+pub returns-in_ok-number_within-in-98 : goal.returns-in_ok-number_within-in-98
+returns-in_ok-number_within-in-98 c = names-backup c.args.name.now (omega arith) (omega arith) _ c.in_ok-number_within-in-98.ensures
+
+pub returns-in_err-number_within-in-98 : goal.returns-in_err-number_within-in-98
+returns-in_err-number_within-in-98 c =
+    c.from_residual-in_err-number_within-in-98.ensures ∙ names-no-backup c.args.name.now (omega arith) (omega arith) c.in_err-number_within-in-98.ensures
+
+pub returns-in_default : goal.returns-in_default
+returns-in_default c = names-none c.args.name.now (λ one. (λ p. omega arith, λ l. omega arith)) (λ two. (λ a. omega arith, λ b. omega arith))
+
+pub returns-in_default-2 : goal.returns-in_default-2
+returns-in_default-2 c = names-none c.args.name.now (λ one. (λ p. omega arith, λ l. omega arith)) (λ two. (λ a. omega arith, λ b. omega arith))
+
+pub returns-in_default-3 : goal.returns-in_default-3
+returns-in_default-3 c = names-none c.args.name.now (λ one. (λ p. omega arith, λ l. omega arith)) (λ two. (λ a. omega arith, λ b. omega arith))
+
+pub returns-in_default-4 : goal.returns-in_default-4
+returns-in_default-4 c = names-none c.args.name.now (λ one. (λ p. omega arith, λ l. omega arith)) (λ two. (λ a. omega arith, λ b. omega arith))
