@@ -20,8 +20,7 @@ use Rattle.basics.specs.Verdict.{says_send}
 use Rattle.messages.specs.declared.Message.TheVariants.{Vote}
 use Rattle.messages.specs.Table.{request_row, prepare_row, promise_row, propose_row, vote_row, table_row, keeps_table}
 use Rattle.messages.specs.Message.{message_of, fields_of, when_request, when_prepare, when_promise, when_propose, when_vote}
-use Rattle.wire.specs.declared.Reading.TheVariants.{Read}
-use Rattle.wire.specs.Packet.{fields_in, read_packet, packet_with, packet_of}
+use Rattle.wire.specs.Packet.{Read, fields_in, read_packet, packet_with, packet_of}
 use Rattle.player.specs.Step.{after_reading, after_placing, ruled, rule_at, act, step}
 use Rattle.quorum.specs.Settings.{acceptors_allowed, instances_allowed, allowed}
 use Rattle.quorum.specs.Quorum.{majority, bit, has_member, with_member, within, reaches}

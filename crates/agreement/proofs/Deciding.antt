@@ -7,8 +7,7 @@ use Rattle.basics.specs.declared.Instance.{Instance}
 use Rattle.basics.specs.declared.Round.{Round}
 use Rattle.basics.specs.declared.Value.{Value}
 use Rattle.messages.specs.declared.Message.TheVariants as kind
-use Rattle.wire.specs.declared.Reading.TheVariants.{Read}
-use Rattle.wire.specs.Packet.{read_packet}
+use Rattle.wire.specs.Packet.{Read, read_packet}
 use Rattle.basics.proofs.Places.{placed-index, placed-there}
 use Rattle.quorum.specs.declared.Settings.{Settings}
 use Rattle.quorum.specs.Voters.{Mem}

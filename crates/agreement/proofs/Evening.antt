@@ -18,7 +18,7 @@ use Rattle.learner_tables.specs.Tables.{Tables, cell_at, cells}
 use Rattle.learner_delivery.specs.Delivery.{delivered}
 use Rattle.learner_delivery.specs.Promises.{BeforeUndecided}
 use Rattle.learner_delivery.proofs.Delivered.{delivered-before}
-use Rattle.learner_holes.specs.declared.Hole.TheVariants as holes
+use Rattle.learner_holes.specs.Holes as holes
 use Rattle.learner_holes.specs.Holes.{find_hole}
 use Rattle.learner_holes.specs.Promises.{AllDecided}
 use Rattle.learner_holes.proofs.LeastHole.{none-walked}

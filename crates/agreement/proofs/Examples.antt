@@ -15,9 +15,7 @@ use Rattle.columns.proofs.Columns.{below-fresh}
 use Rattle.basics.proofs.Ladder.{both_true, or_cases}
 use Rattle.messages.specs.declared.Message.{Message}
 use Rattle.messages.proofs.Eliminators.{request-elim}
-use Rattle.wire.specs.declared.Reading.{Reading}
-use Rattle.wire.specs.declared.Reading.TheVariants.{Read, Refused}
-use Rattle.wire.specs.Packet.{packet_length, read_packet, packet_of}
+use Rattle.wire.specs.Packet.{Reading, Read, Refused, packet_length, read_packet, packet_of}
 use Rattle.wire.proofs.Laws.{packet-bytes}
 use Rattle.quorum.specs.declared.Settings.{Settings}
 use Rattle.quorum.specs.Voters.{Mem}

@@ -12,8 +12,7 @@ use Rattle.basics.specs.declared.Round.{Round}
 use Rattle.basics.specs.declared.Value.{Value}
 use Rattle.basics.proofs.Ladder.{both_true, or_cases}
 use Rattle.messages.specs.declared.Message.TheVariants.{Vote}
-use Rattle.wire.specs.declared.Reading.TheVariants.{Read}
-use Rattle.wire.specs.Packet.{read_packet, packet_of}
+use Rattle.wire.specs.Packet.{Read, read_packet, packet_of}
 use Rattle.quorum.specs.Voters.{Mem, newest, older}
 use Rattle.agreement.specs.Run.{Caller, the_primary, acceptor, backup, learner, Sent, sent, Boxes, VoteSent, Decided}
 use Rattle.agreement.specs.Examples.{equal_bytes, was_sent, three, first}

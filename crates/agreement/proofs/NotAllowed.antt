@@ -21,10 +21,9 @@ use Rattle.acceptor.specs.Acceptor as acceptor
 use Rattle.backup_tables.specs.Tables as backup_tables
 use Rattle.backup.specs.Backup as backup
 use Rattle.learner_tables.specs.Tables as learner_tables
-use Rattle.learner.specs.declared.Answer.TheVariants as answers
 use Rattle.learner.specs.Learner as learner
 use Rattle.learner_delivery.specs.Delivery.{deliver}
-use Rattle.learner_holes.specs.declared.Hole.TheVariants as holes
+use Rattle.learner_holes.specs.Holes as holes
 use Rattle.learner_holes.specs.Holes.{find_hole}
 use Rattle.learner_saved.specs.Saved.{save}
 use Rattle.agreement.specs.Run.{Sent, Boxes, more_when_sent, primary_record, Call, Run, now, and_then}
@@ -72,7 +71,7 @@ module _ (s : Settings) (never : allowed s ≡ false) where
   unfolding learner.learner_step learner.learner
   learner-by-7 p t = step-by-7 (learner.learner s) p t (learner-never t)
 
-  answer-by-7 : (i : Instance) (t : learner_tables.Tables) → learner.answer_for s i t ≡ answers.Refused 7
+  answer-by-7 : (i : Instance) (t : learner_tables.Tables) → learner.answer_for s i t ≡ learner.Refused 7
   unfolding learner.answer_for
   answer-by-7 i t = need-failed _ _ (learner-never t)
 

@@ -8,20 +8,16 @@ use native.Mathlib.Omega.{arith}
 use lib.Dec.{eqb}
 use borrow.Author.Tests.{eqb-false}
 use Rattle.basics.specs.declared.Instance.{Instance}
-use Rattle.basics.specs.declared.Place.{Place}
-use Rattle.basics.specs.declared.Place.TheVariants.{At, Nowhere}
 use Rattle.basics.specs.declared.Value.{Value}
 use Rattle.basics.specs.Rounds.{the_instance}
 use Rattle.basics.specs.Verdict.{verdict_number}
 use Rattle.basics.specs.Ladder.{need◌or◌then◌}
-use Rattle.basics.specs.Places.{placed}
+use Rattle.basics.specs.Places.{Place, At, Nowhere, placed}
 use Rattle.basics.proofs.Ladder.{need-elim, need-passed, if-elim}
 use Rattle.basics.proofs.Places.{PlacedBy, placed-index, placed_by}
 use Rattle.messages.specs.declared.Message.{Message}
 use Rattle.messages.proofs.Eliminators.{request-elim, promise-elim, vote-elim}
-use Rattle.wire.specs.declared.Reading.{Reading}
-use Rattle.wire.specs.declared.Reading.TheVariants.{Read, Refused}
-use Rattle.wire.specs.Packet.{read_packet}
+use Rattle.wire.specs.Packet.{Reading, Read, Refused, read_packet}
 use Rattle.wire.proofs.Laws.{RefusedBy, reader-refuses}
 use Rattle.basics.specs.Outcome.{Outcome, Lent}
 use Rattle.player.specs.Step.{Ruling, refused, sends, counts, Player, after_reading, after_placing, ruled, rule_at, act, step}
@@ -51,10 +47,10 @@ use Rattle.learner_cell.specs.Cell as learner_cell
 use Rattle.learner_rule.specs.Rule.{hold_or_decide, add_voter, count_vote}
 use Rattle.learner_tables.specs.Tables as learner_tables
 use Rattle.learner_tables.proofs.Laws.{sized-allowed}
-use Rattle.learner.specs.declared.Answer.TheVariants as answers
+use Rattle.learner.specs.Learner as answers
 use Rattle.learner.specs.Learner.{rule, learner, learner_step, answer_of_cell, answer_at, answer_for}
 use Rattle.learner.proofs.Laws as learner-laws
-use Rattle.learner_holes.specs.declared.Hole.TheVariants as holes
+use Rattle.learner_holes.specs.Holes as holes
 use Rattle.learner_delivery.specs.Delivery.{deliver}
 use Rattle.learner_holes.specs.Holes.{is_hole, first_hole_from, find_hole}
 use Rattle.learner_saved.specs.Saved.{save}

@@ -8,17 +8,15 @@ use mathlib.Core.List.{List, ◌∷◌}
 use native.Mathlib.Omega.{arith}
 use lib.ListN.{get_or}
 use Rattle.basics.specs.declared.Instance.{Instance}
-use Rattle.basics.specs.declared.Place.TheVariants.{At}
 use Rattle.basics.specs.declared.Round.{Round}
 use Rattle.basics.specs.declared.Value.{Value}
 use Rattle.basics.specs.Rounds.{the_instance}
 use Rattle.basics.specs.Verdict.{says_send}
-use Rattle.basics.specs.Places.{placed}
+use Rattle.basics.specs.Places.{At, placed}
 use Rattle.basics.proofs.Places.{PlacedBy, placed-once}
 use Rattle.messages.specs.declared.Message.{Message}
 use Rattle.messages.specs.declared.Message.TheVariants as kind
-use Rattle.wire.specs.declared.Reading.TheVariants.{Read}
-use Rattle.wire.specs.Packet.{read_packet, packet_of}
+use Rattle.wire.specs.Packet.{Read, read_packet, packet_of}
 use Rattle.wire.proofs.Laws.{Writable, RefusedBy, written-reads}
 use Rattle.basics.specs.Outcome.{Outcome, Lent}
 use Rattle.player.specs.Step.{unchanged, Player, ruled, step}

@@ -5,11 +5,9 @@ use mathlib.Core.Path.{◌≡◌, refl, ap, ◌∙◌, subst}
 use mathlib.Core.Bool.{true, false}
 use native.Mathlib.Omega.{arith}
 use Rattle.basics.specs.declared.Instance.{Instance}
-use Rattle.basics.specs.declared.Place.{Place}
-use Rattle.basics.specs.declared.Place.TheVariants.{At, Nowhere}
 use Rattle.basics.specs.declared.Value.{Value}
 use Rattle.basics.specs.Ladder.{when◌then◌else◌, need◌or◌then◌}
-use Rattle.basics.specs.Places.{placed}
+use Rattle.basics.specs.Places.{Place, At, Nowhere, placed}
 use Rattle.basics.proofs.Ladder.{need-elim, if-elim}
 use Rattle.basics.proofs.Places.{placed-index}
 use Rattle.quorum.specs.declared.Settings.{Settings}

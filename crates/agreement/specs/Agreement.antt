@@ -6,8 +6,7 @@ use Rattle.basics.specs.declared.Round.{Round}
 use Rattle.basics.specs.declared.Value.{Value}
 use Rattle.basics.specs.Values.{null}
 use Rattle.messages.specs.declared.Message.TheVariants.{Vote}
-use Rattle.wire.specs.declared.Reading.TheVariants.{Read}
-use Rattle.wire.specs.Packet.{read_packet}
+use Rattle.wire.specs.Packet.{Read, read_packet}
 use Rattle.quorum.specs.declared.Settings.{Settings}
 use Rattle.quorum.specs.Settings.{allowed}
 use Rattle.quorum.specs.Voters.{Mem}
@@ -19,9 +18,9 @@ use Rattle.backup_tables.specs.Tables as backup_tables
 use Rattle.backup.specs.Backup.{backup_step, backup_start}
 use Rattle.learner_tables.specs.Tables as learner_tables
 use Rattle.learner_tables.specs.Tables.{cells}
-use Rattle.learner.specs.declared.Answer.TheVariants as answers
+use Rattle.learner.specs.Learner as answers
 use Rattle.learner.specs.Learner.{learner_step, answer_for}
-use Rattle.learner_holes.specs.declared.Hole.TheVariants as holes
+use Rattle.learner_holes.specs.Holes as holes
 use Rattle.learner_delivery.specs.Delivery.{delivered, deliver}
 use Rattle.learner_holes.specs.Holes.{find_hole}
 use Rattle.learner_saved.specs.Saved.{save}

@@ -8,7 +8,7 @@ use Rattle.quorum.specs.declared.Settings.{Settings}
 use Rattle.learner_cell.specs.Cell.{fresh_cell, has_vote, value_of}
 use Rattle.learner_tables.specs.Tables.{Tables, cell_at, cells}
 use Rattle.learner_delivery.specs.Delivery.{delivered}
-use Rattle.learner_holes.specs.declared.Hole.TheVariants as holes
+use Rattle.learner_holes.specs.Holes as holes
 use Rattle.learner_holes.specs.Holes.{find_hole}
 
 -- A list of values, of these tables.

@@ -13,15 +13,13 @@ use Rattle.basics.specs.Verdict.{verdict_number}
 use Rattle.messages.specs.declared.Message.{Message}
 use Rattle.messages.specs.declared.Message.TheVariants.{Request, Prepare, Promise, Propose, Vote}
 use Rattle.messages.specs.Message.{when_request}
-use Rattle.wire.specs.declared.Reading.{Reading}
-use Rattle.wire.specs.declared.Reading.TheVariants.{Read, Refused}
-use Rattle.wire.specs.Packet.{packet_length, read_packet, packet_of}
+use Rattle.wire.specs.Packet.{Reading, Read, Refused, packet_length, read_packet, packet_of}
 use Rattle.quorum.specs.declared.Settings.{Settings}
 use Rattle.primary.specs.Primary.{primary_step, primary_request, as_slice}
 use Rattle.acceptor.specs.Acceptor.{acceptor_step}
 use Rattle.backup.specs.Backup.{backup_step, backup_start}
 use Rattle.learner.specs.Learner.{learner_step}
-use Rattle.learner_holes.specs.declared.Hole.TheVariants as holes
+use Rattle.learner_holes.specs.Holes as holes
 use Rattle.learner_holes.specs.Holes.{find_hole}
 use Rattle.agreement.specs.Run.{Sent, Boxes, fresh_boxes, primary_record, after_primary, after_acceptor, after_backup, after_start, after_learner, VoteSent, not_yet, says, said}
 use Rattle.agreement.specs.Agreement.{delivered_by}

@@ -11,8 +11,7 @@ use Rattle.basics.specs.declared.Value.{Value}
 use Rattle.basics.specs.Ladder.{when◌then◌else◌}
 use Rattle.basics.specs.Verdict.{says_send}
 use Rattle.messages.specs.declared.Message.TheVariants.{Request, Vote}
-use Rattle.wire.specs.declared.Reading.TheVariants.{Read}
-use Rattle.wire.specs.Packet.{read_packet, Malformed}
+use Rattle.wire.specs.Packet.{Read, read_packet, Malformed}
 use Rattle.basics.specs.Outcome.{Outcome, Lent}
 use Rattle.quorum.specs.declared.Settings.{Settings}
 use Rattle.quorum.specs.Voters.{Mem, Distinct}
@@ -23,8 +22,8 @@ use Rattle.acceptor.specs.Acceptor.{acceptor_step}
 use Rattle.backup_tables.specs.Tables as backups
 use Rattle.backup.specs.Backup.{backup_step, backup_start}
 use Rattle.learner_tables.specs.Tables as learners
-use Rattle.learner.specs.declared.Answer.{Answer}
-use Rattle.learner.specs.declared.Answer.TheVariants as answers
+use Rattle.learner.specs.Learner.{Answer}
+use Rattle.learner.specs.Learner as answers
 use Rattle.learner.specs.Learner.{learner_step, answer_for, answered}
 use Rattle.learner_delivery.specs.Delivery.{deliver}
 use Rattle.learner_holes.specs.Holes as holes

@@ -24,8 +24,8 @@ use Rattle.backup_tables.specs.Tables as backups
 use Rattle.backup.specs.Backup.{backup_step, backup_start}
 use Rattle.learner_cell.specs.Cell as learner_cell
 use Rattle.learner_tables.specs.Tables as learners
-use Rattle.learner.specs.declared.Answer.{Answer}
-use Rattle.learner.specs.declared.Answer.TheVariants as answers
+use Rattle.learner.specs.Learner.{Answer}
+use Rattle.learner.specs.Learner as answers
 use Rattle.learner.specs.Learner.{learner_step, answer_for}
 
 abbrev v : Value

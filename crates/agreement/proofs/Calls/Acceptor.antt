@@ -16,8 +16,7 @@ use Rattle.basics.proofs.Places.{placed-index}
 use Rattle.basics.proofs.Rounds.{at_least}
 use Rattle.messages.specs.declared.Message.{Message}
 use Rattle.messages.specs.declared.Message.TheVariants as kind
-use Rattle.wire.specs.declared.Reading.TheVariants.{Read}
-use Rattle.wire.specs.Packet.{packet_of}
+use Rattle.wire.specs.Packet.{Read, packet_of}
 use Rattle.wire.proofs.Laws.{Writable, read-writable, written-reads}
 use Rattle.player.specs.Step.{unchanged, ruled}
 use Rattle.quorum.specs.declared.Settings.{Settings}

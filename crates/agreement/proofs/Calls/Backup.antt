@@ -15,8 +15,7 @@ use Rattle.basics.proofs.Ladder.{if-elim, if-false}
 use Rattle.basics.proofs.Places.{placed-index}
 use Rattle.messages.specs.declared.Message.{Message}
 use Rattle.messages.specs.declared.Message.TheVariants as kind
-use Rattle.wire.specs.declared.Reading.TheVariants.{Read}
-use Rattle.wire.specs.Packet.{packet_of}
+use Rattle.wire.specs.Packet.{Read, packet_of}
 use Rattle.wire.proofs.Laws.{Writable, read-writable}
 use Rattle.player.specs.Step.{unchanged, sends, counts, ruled}
 use Rattle.quorum.specs.declared.Settings.{Settings}

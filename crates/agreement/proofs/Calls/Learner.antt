@@ -15,7 +15,7 @@ use Rattle.basics.specs.Values.{same_value}
 use Rattle.basics.specs.Verdict.{says_send}
 use Rattle.basics.proofs.Ladder.{if-elim, if-false, both_true}
 use Rattle.basics.proofs.Places.{placed-index}
-use Rattle.wire.specs.declared.Reading.TheVariants.{Read}
+use Rattle.wire.specs.Packet.{Read}
 use Rattle.player.specs.Step.{unchanged, counts, ruled}
 use Rattle.quorum.specs.declared.Settings.{Settings}
 use Rattle.quorum.specs.Voters.{Mem}

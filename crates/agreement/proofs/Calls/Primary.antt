@@ -12,8 +12,7 @@ use Rattle.basics.specs.Rounds.{the_instance, the_round}
 use Rattle.basics.specs.Verdict.{says_send}
 use Rattle.basics.proofs.Ladder.{if-false}
 use Rattle.messages.specs.declared.Message.TheVariants as kind
-use Rattle.wire.specs.declared.Reading.TheVariants.{Read}
-use Rattle.wire.specs.Packet.{read_packet, packet_of}
+use Rattle.wire.specs.Packet.{Read, read_packet, packet_of}
 use Rattle.wire.proofs.Laws.{Writable, read-writable}
 use Rattle.player.specs.Step.{unchanged, ruled}
 use Rattle.quorum.specs.declared.Settings.{Settings}
