@@ -202,23 +202,16 @@ impl Depot {
         }
     }
 
-    // The answer, and the packet afterwards: a start is told in a zeroed one.
-    fn carry_out(&mut self, command: Command) -> (basics::Answer, [u8; 36]) {
+    // A packet is its player's, and a start tells its prepare in the packet that is lent.
+    fn carry_out(&mut self, command: Command, packet: &mut [u8; 36]) -> basics::Answer {
         match command {
-            Command::Packet { player, mut packet } => {
-                let answer = self.give(player, &mut packet);
-                (answer, packet)
-            }
+            Command::Packet { player, .. } => self.give(player, packet),
             Command::Start {
                 own,
                 instance,
                 floor,
                 value,
-            } => {
-                let mut packet = [0; 36];
-                let answer = self.start(own, Instance(instance), floor, value, &mut packet);
-                (answer, packet)
-            }
+            } => self.start(own, Instance(instance), floor, value, packet),
         }
     }
 }
@@ -285,9 +278,10 @@ fn main(rt: HostRuntime) -> io::Result<()> {
         let Some(line) = next_line(rt.alloc(), &mut input)? else {
             break;
         };
-        match bench_lines::command_of(&line) {
+        let mut packet = [0; 36];
+        match bench_lines::take_line(&line, &mut packet) {
             Some(command) => {
-                let (answer, packet) = depot.carry_out(command);
+                let answer = depot.carry_out(command, &mut packet);
                 println!(rt; "{} {} {}", Name(command), Answer(answer), Digits(packet))?;
             }
             None => println!(rt; "? bad -")?,

@@ -18,9 +18,9 @@ use Rattle.bench_lines.specs.declared.Command.{Command}
 use Rattle.bench_lines.specs.declared.Command.TheVariants.{Packet, Start}
 use Rattle.bench_lines.specs.Line.{space, first_word, rest_of, digit_in, digit_of, are_digits, is_hex, bytes_of, number_of, is_decimal, value_of}
 use Rattle.bench_lines.specs.Line.{primary_letter, acceptor_letter, backup_letter, learner_letter, start_letter}
-use Rattle.bench_lines.specs.Line.{is_letter, is_numbered, own_of, player_of, start_with, start_of, command_for, command_of, buffer_after}
+use Rattle.bench_lines.specs.Line.{is_letter, is_numbered, own_of, player_of, start_with, start_of, command_for, command_of, buffer_after, meaning_of}
 use Rattle.bench_lines.specs.Promises.{digit_byte, PlayerName, the_primary, an_acceptor, a_backup, the_learner, Form, packet_line, start_line}
-use Rattle.bench_lines.specs.Promises.{CommandExactly, BadKeepsBuffer, LongIsBad}
+use Rattle.bench_lines.specs.Promises.{CommandExactly, MeaningExactly, BadKeepsBuffer, LongIsBad}
 use Rattle.bench_lines.proofs.Words.{word-ends, rest-begins, word-goes-on, rest-later}
 use Rattle.bench_lines.proofs.Digits.{hex-brings, decimal-brings, decimal-digits}
 
@@ -245,10 +245,20 @@ module _ (line : List ℕ) where
 command-exactly : CommandExactly
 command-exactly line command = (has-form line command, means line command)
 
+-- ---- the buffer that is lent with a line
+
+meaning-exactly : MeaningExactly
+unfolding meaning_of
+meaning-exactly line buffer command packet = (
+  λ so. let found : command_of line ≡ Some command = ap (λ m. m.command) so in
+      (has-form line command found, sym (ap (λ m. m.packet) so) ∙ ap (λ asked. buffer_after asked buffer) found),
+  λ formed. let found = means line command formed.0 in rw (found, formed.1),
+)
+
 -- ---- bad lines
 
 bad-keeps-buffer : BadKeepsBuffer
-unfolding buffer_after
+unfolding meaning_of buffer_after
 bad-keeps-buffer line buffer bad = rw bad
 
 form-is-short : (line : List ℕ) (command : Command) → Form line command → length line ≤ 75
@@ -258,7 +268,8 @@ form-is-short line command (start_line own least most instance floor value insta
     simp length-append (omega (arith, (decimal-brings instance instance-so).0, (decimal-brings floor floor-so).0, (hex-brings 32 value value-so).0))
 
 long-is-bad : LongIsBad
-long-is-bad line long = none-left (command_of line) refl
+unfolding meaning_of
+long-is-bad line buffer long = bad-keeps-buffer line buffer (none-left (command_of line) refl)
   where
     none-left : (asked : Option Command) → command_of line ≡ asked → command_of line ≡ None
     none-left None so = so

@@ -155,11 +155,22 @@ command_for None name rest = start_of name rest
 unfoldable pub command_of : (line : List ℕ) → Option Command
 command_of line = command_for (player_of (first_word line)) (first_word line) (rest_of line)
 
--- What stands in a buffer that a line's packet is put into: a start, or a line of another form, leaves it as it was.
+-- What stands in a buffer that is lent with a line: a player's packet, or, of a start or a line of another form, what it held.
 unfoldable pub buffer_after : (asked : Option Command) → (buffer : List ℕ) → List ℕ
 buffer_after (Some (Packet player packet)) buffer = packet
 buffer_after (Some (Start own instance floor value)) buffer = buffer
 buffer_after None buffer = buffer
+
+-- What a line asks for, and what then stands in the buffer that is lent with it.
+pub record Meaning : Type 0 where
+  pub command : Option Command
+  pub packet : List ℕ
+
+abbrev pub meaning : Option Command → (packet : List ℕ) → Meaning
+meaning command packet = record { command = command; packet = packet }
+
+unfoldable pub meaning_of : (line buffer : List ℕ) → Meaning
+meaning_of line buffer = meaning (command_of line) (buffer_after (command_of line) buffer)
 
 -- ---- lines of a delivered list, a value to each
 

@@ -6,7 +6,7 @@ use Rattle.bench_lines.specs.declared.Player.TheVariants.{Primary, Acceptor, Bac
 use Rattle.bench_lines.specs.declared.Command.{Command}
 use Rattle.bench_lines.specs.declared.Command.TheVariants.{Packet, Start}
 use Rattle.bench_lines.specs.Line.{primary_letter, acceptor_letter, backup_letter, learner_letter, start_letter}
-use Rattle.bench_lines.specs.Line.{space, is_hex, bytes_of, number_of, is_decimal, value_of, command_of, buffer_after}
+use Rattle.bench_lines.specs.Line.{space, is_hex, bytes_of, number_of, is_decimal, value_of, command_of, buffer_after, meaning, meaning_of}
 
 -- The byte of a decimal digit.
 abbrev pub digit_byte : (number : ℕ) → ℕ
@@ -33,10 +33,16 @@ pub data Form : (line : List ℕ) → Command → Type 0 where
 abbrev pub CommandExactly : Type 0
 CommandExactly = (line : List ℕ) (command : Command) → (command_of line ≡ Some command) ↔ Form line command
 
--- A bad line, one that is no command, leaves a buffer for its packet as it was.
+-- The same where a buffer is lent: the command is told, and the buffer holds its packet; a start leaves it as it was.
+abbrev pub MeaningExactly : Type 0
+MeaningExactly =
+    (line buffer : List ℕ) (command : Command) (packet : List ℕ)
+    → (meaning_of line buffer ≡ meaning (Some command) packet) ↔ (Form line command × (packet ≡ buffer_after (Some command) buffer))
+
+-- A bad line, one that is no command, leaves the buffer as it was.
 abbrev pub BadKeepsBuffer : Type 0
-BadKeepsBuffer = (line buffer : List ℕ) → command_of line ≡ None → buffer_after (command_of line) buffer ≡ buffer
+BadKeepsBuffer = (line buffer : List ℕ) → (meaning_of line buffer).command ≡ None → meaning_of line buffer ≡ meaning None buffer
 
 -- A line of more than 75 bytes is bad, and so are its first 128 bytes where it has more: the bench keeps no more than those.
 abbrev pub LongIsBad : Type 0
-LongIsBad = (line : List ℕ) → 75 < length line → command_of line ≡ None
+LongIsBad = (line buffer : List ℕ) → 75 < length line → meaning_of line buffer ≡ meaning None buffer

@@ -3,7 +3,7 @@
 
 ghost use Rattle.std.specs.Prelude.{◌≡◌, ◌≤◌, ◌==◌, position};
 ghost use Rattle.bench_lines.specs.Line.{space, first_word, rest_of, digit_in, hex_in, decimal_in};
-ghost use Rattle.bench_lines.specs.Line.{number_within, value_from, player_of, start_of, command_of, listed_in};
+ghost use Rattle.bench_lines.specs.Line.{number_within, value_from, player_of, start_of, command_of, meaning, meaning_of, listed_in};
 
 use basics::Value;
 
@@ -161,6 +161,19 @@ pub fn command_of(line: &[u8]) -> Option<Command>
         }),
         None => start_of(name, rest),
     }
+}
+
+/// The same where a buffer is lent for the packet, which is put there. A start, or a line of another form, leaves the buffer as it was.
+#[tactic(auto, unfolding(crate::specs::Line::meaning_of, crate::specs::Line::buffer_after))]
+pub fn take_line(line: &[u8], buffer: &mut [u8; 36]) -> Option<Command>
+    ensures { meaning result buffer.new ≡ meaning_of line.now buffer.old }
+{
+    let command = command_of(line);
+    match command {
+        Some(Command::Packet { player: _, packet }) => *buffer = packet,
+        Some(Command::Start { .. }) | None => {}
+    }
+    command
 }
 
 /// A line of a delivered list that is written out: 32 hex digits are a value, of 16 bytes.

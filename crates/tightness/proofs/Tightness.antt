@@ -356,6 +356,7 @@ every_call = record {
   of_learner_save = (λ _ _ _ _ _ _. seen (λ o. o.answer), λ _ _ _ _ _ _. seen (λ o. o.left.packet));
   of_learner_read_saved = (λ _ _ _ _ _ _. seen (λ o. o.answer), λ _ _ _ _ _ _. seen (λ o. (o.left.tables.rounds, o.left.tables.sets, o.left.tables.values)));
   of_command_of = λ _ _ _ _ _ _. seen (λ o. o);
+  of_take_line = (λ _ _ _ _ _ _. seen (λ o. o.command), λ _ _ _ _ _ _. seen (λ o. o.packet));
   of_value_in = λ _ _ _ _ _ _. seen (λ o. o);
   of_entry_in = λ _ _ answer other _ _. told entry.entry_read entry_back entry-back answer other;
   of_shared_pass_at = λ _ _ _ _ _ _. equal;

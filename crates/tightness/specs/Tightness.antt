@@ -138,6 +138,7 @@ use Rattle.learner_file.proofs.store_saved.Reads as store-saved
 use Rattle.learner_saved.proofs.myrthakel_learner_save.Reads as learner-save
 use Rattle.learner_saved.proofs.myrthakel_learner_read_saved.Reads as learner-read-saved
 use Rattle.bench_lines.proofs.command_of.Reads as command-of
+use Rattle.bench_lines.proofs.take_line.Reads as take-line
 use Rattle.bench_lines.proofs.value_in.Reads as value_in
 use Rattle.entries.proofs.entry_in.Reads as entry_in
 use Rattle.passes.specs.Lent as lent_ledger
@@ -370,6 +371,7 @@ pub record EveryCall : Type 2 where
   pub of_learner_read_saved : OneAnswer learner-read-saved.Learnt × OneContent learner-read-saved.Learnt (λ κs exit. held_3 exit.1.1.1)
   -- bench_lines
   pub of_command_of : OneAnswer command-of.Learnt
+  pub of_take_line : OneAnswer take-line.Learnt × OneContent take-line.Learnt (λ κs exit. held_1 exit.1)
   pub of_value_in : OneAnswer value_in.Learnt
   -- entries
   pub of_entry_in : OneAnswer entry_in.Learnt
