@@ -9,8 +9,7 @@ use basics::{Instance, Refusal, Value, Verdict};
 use bench_lines::{Command, Player};
 use primary_rule::Cell;
 use quorum::Settings;
-use std::alloc::Global;
-use std::io::{BufRead, BufReader, Read};
+use std::io::Read;
 use std::{fmt, io};
 
 const SETTINGS: Settings = Settings {
@@ -19,25 +18,68 @@ const SETTINGS: Settings = Settings {
 };
 
 // No more than these bytes of a line are kept, and no line of more than 75 is a command.
-const LINE_LENGTH: u64 = 128;
+const LINE_LENGTH: usize = 128;
 
 // ---- lines of the input
 
-// A line ends at its newline, which is left out, or at the end of the input if anything stands before that.
-fn next_line(alloc: Global, input: &mut impl BufRead) -> io::Result<Option<Vec<u8>>> {
-    let mut line = Vec::new(alloc);
-    let length = Read::take(&mut *input, LINE_LENGTH).read_until(b'\n', &mut line)?;
-    if line.last() == Some(&b'\n') {
-        line.pop();
-    } else if length as u64 == LINE_LENGTH {
-        input.skip_until(b'\n')?;
+// What was read of the input: from `from` until `until` it is still to be taken. It stands in an array, and so does a line: the bench needs no heap.
+#[derive(Drop)]
+struct Input<R: Read> {
+    reader: R,
+    chunk: [u8; 4096],
+    from: usize,
+    until: usize,
+}
+
+impl<R: Read> Input<R> {
+    fn new(reader: R) -> Self {
+        Input {
+            reader,
+            chunk: [0; 4096],
+            from: 0,
+            until: 0,
+        }
     }
-    Ok((length != 0).then_some(line))
+
+    // One byte, by a read where the chunk is used up; none at the end of the input.
+    fn next_byte(&mut self) -> io::Result<Option<u8>> {
+        if self.until <= self.from {
+            self.until = self.reader.read(&mut self.chunk)?;
+            self.from = 0;
+        }
+        if self.until <= self.from {
+            return Ok(None);
+        }
+        let byte = self.chunk.get(self.from).copied();
+        self.from += 1;
+        Ok(byte)
+    }
+
+    // A line ends at its newline, which is left out, or at the end of the input if anything stands before that.
+    fn next_line<'l>(&mut self, line: &'l mut [u8; LINE_LENGTH]) -> io::Result<Option<&'l [u8]>> {
+        let mut length = 0;
+        for _ in 0..u64::MAX {
+            let Some(byte) = self.next_byte()? else {
+                if length == 0 {
+                    return Ok(None);
+                }
+                break;
+            };
+            if byte == b'\n' {
+                break;
+            }
+            if let Some(place) = line.get_mut(length) {
+                *place = byte;
+                length += 1;
+            }
+        }
+        Ok(Some(&line[..length]))
+    }
 }
 
 // ---- the players, each with its tables
 
-#[derive(Drop)]
+#[derive(Clone, Copy)]
 struct Acceptor {
     rounds: [u32; 1024],
     vote_rounds: [u32; 1024],
@@ -52,6 +94,7 @@ fn fresh_vote_rounds() -> [u32; 1024]
 }
 
 impl Acceptor {
+    #[inline(always)]
     fn fresh() -> Self
         ensures { tables_of_acceptor result.rounds result.vote_rounds result.values ≡ fresh_acceptor }
     {
@@ -72,7 +115,7 @@ impl Acceptor {
     }
 }
 
-#[derive(Drop)]
+#[derive(Clone, Copy)]
 struct Backup {
     rounds: [u32; 1024],
     phases: [u8; 1024],
@@ -83,6 +126,7 @@ struct Backup {
 }
 
 impl Backup {
+    #[inline(always)]
     fn fresh() -> Self
         ensures { tables_of_backup result.rounds result.phases result.sets result.best_vote_rounds result.best_values result.own_values ≡ fresh_backup }
     {
@@ -136,6 +180,7 @@ struct Learner {
 }
 
 impl Learner {
+    #[inline(always)]
     fn fresh() -> Self
         ensures { tables_of_learner result.rounds result.sets result.values ≡ fresh_learner }
     {
@@ -156,24 +201,16 @@ impl Learner {
     }
 }
 
+// Each player stands where `main` made it: one that was handed on by value cost a copy of its tables on the stack.
 #[derive(Drop)]
-struct Depot {
+struct Depot<'a> {
     primary: Cell,
-    acceptors: [Acceptor; 3],
-    backups: [Backup; 3],
-    learner: Learner,
+    acceptors: &'a mut [Acceptor; 3],
+    backups: &'a mut [Backup; 3],
+    learner: &'a mut Learner,
 }
 
-impl Depot {
-    fn fresh() -> Self {
-        Depot {
-            primary: primary_rule::fresh_cell(),
-            acceptors: [Acceptor::fresh(), Acceptor::fresh(), Acceptor::fresh()],
-            backups: [Backup::fresh(), Backup::fresh(), Backup::fresh()],
-            learner: Learner::fresh(),
-        }
-    }
-
+impl Depot<'_> {
     // A player that the depot has not, which no line names, is not allowed.
     fn give(&mut self, player: Player, packet: &mut [u8; 36]) -> basics::Answer {
         match player {
@@ -253,14 +290,14 @@ impl fmt::Display for Answer {
     }
 }
 
-// 72 hex digits.
+// 72 hex digits, eight at a time.
 #[derive(Clone, Copy)]
 struct Digits([u8; 36]);
 
 impl fmt::Display for Digits {
     fn fmt<W: fmt::Write>(&self, f: &mut fmt::Formatter<W>) -> fmt::Result {
-        for byte in &self.0 {
-            write!(f, "{byte:02x}")?;
+        for word in self.0.as_chunks::<4>().0 {
+            write!(f, "{:08x}", u32::from_be_bytes(*word))?;
         }
         Ok(())
     }
@@ -271,20 +308,26 @@ impl fmt::Display for Digits {
 // One line after the other: what it asks for is done, and told in a line. A proved loop has to end, and nothing says that the input does: the loop counts its
 // turns up to a number that no run reaches.
 fn main(rt: HostRuntime) -> io::Result<()> {
-    let mut input = BufReader::new(rt.alloc(), rt.reader())?;
-    let mut depot = Depot::fresh();
+    let mut input = Input::new(rt.reader());
+    let mut line = [0; LINE_LENGTH];
+    let mut depot = Depot {
+        primary: primary_rule::fresh_cell(),
+        acceptors: &mut [Acceptor::fresh(); 3],
+        backups: &mut [Backup::fresh(); 3],
+        learner: &mut Learner::fresh(),
+    };
     println!(rt; "player verdict packet")?;
     for _ in 0..u64::MAX {
-        let Some(line) = next_line(rt.alloc(), &mut input)? else {
+        let Some(line) = input.next_line(&mut line)? else {
             break;
         };
         let mut packet = [0; 36];
-        match bench_lines::take_line(&line, &mut packet) {
+        match bench_lines::take_line(line, &mut packet) {
             Some(command) => {
                 let answer = depot.carry_out(command, &mut packet);
                 println!(rt; "{} {} {}", Name(command), Answer(answer), Digits(packet))?;
             }
-            None => println!(rt; "? bad -")?,
+            None => rt.write_all(b"? bad -\n")?,
         }
     }
     Ok(())

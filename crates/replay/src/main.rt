@@ -5,29 +5,71 @@ use basics::Refusal;
 use entries::Entry;
 use ledger::Entered;
 use passes::Table;
-use std::alloc::Global;
-use std::io::{BufRead, BufReader, Read};
+use std::io::Read;
 use std::{fmt, io};
 
 // A proved loop has to end, and nothing says that the input does: no run reaches so many lines. It is 2^56 - 1, so that as many sales of at most 255 rides
 // each sell fewer than 2^64, and no sum overflows.
 const MOST_LINES: u64 = 72057594037927935;
 
-// No more than these bytes of a line are kept: a value's digits and the newline, or one byte that is too many.
-const LINE_LENGTH: u64 = 33;
+// No more than these bytes of a line are kept: a value's digits, and one byte that is too many.
+const LINE_LENGTH: usize = 33;
 
 // ---- lines of the input
 
-// A line ends at its newline, which is left out, or at the end of the input if anything stands before that.
-fn next_line(alloc: Global, input: &mut impl BufRead) -> io::Result<Option<Vec<u8>>> {
-    let mut line = Vec::new(alloc);
-    let length = Read::take(&mut *input, LINE_LENGTH).read_until(b'\n', &mut line)?;
-    if line.last() == Some(&b'\n') {
-        line.pop();
-    } else if length as u64 == LINE_LENGTH {
-        input.skip_until(b'\n')?;
+// What was read of the input: from `from` until `until` it is still to be taken. It stands in an array, and so does a line: the replay needs no heap.
+#[derive(Drop)]
+struct Input<R: Read> {
+    reader: R,
+    chunk: [u8; 4096],
+    from: usize,
+    until: usize,
+}
+
+impl<R: Read> Input<R> {
+    fn new(reader: R) -> Self {
+        Input {
+            reader,
+            chunk: [0; 4096],
+            from: 0,
+            until: 0,
+        }
     }
-    Ok((length != 0).then_some(line))
+
+    // One byte, by a read where the chunk is used up; none at the end of the input.
+    fn next_byte(&mut self) -> io::Result<Option<u8>> {
+        if self.until <= self.from {
+            self.until = self.reader.read(&mut self.chunk)?;
+            self.from = 0;
+        }
+        if self.until <= self.from {
+            return Ok(None);
+        }
+        let byte = self.chunk.get(self.from).copied();
+        self.from += 1;
+        Ok(byte)
+    }
+
+    // A line ends at its newline, which is left out, or at the end of the input if anything stands before that.
+    fn next_line<'l>(&mut self, line: &'l mut [u8; LINE_LENGTH]) -> io::Result<Option<&'l [u8]>> {
+        let mut length = 0;
+        for _ in 0..u64::MAX {
+            let Some(byte) = self.next_byte()? else {
+                if length == 0 {
+                    return Ok(None);
+                }
+                break;
+            };
+            if byte == b'\n' {
+                break;
+            }
+            if let Some(place) = line.get_mut(length) {
+                *place = byte;
+                length += 1;
+            }
+        }
+        Ok(Some(&line[..length]))
+    }
 }
 
 // ---- an entry
@@ -79,7 +121,8 @@ fn print_passes(rt: &impl Print, table: &Table<'_>) -> io::Result<u64> {
 // ---- the day
 
 fn main(rt: HostRuntime) -> io::Result<()> {
-    let mut input = BufReader::new(rt.alloc(), rt.reader())?;
+    let mut input = Input::new(rt.reader());
+    let mut line = [0; LINE_LENGTH];
     let mut table = Table {
         passes: &mut [0; 256],
         rides_left: &mut [0; 256],
@@ -90,15 +133,15 @@ fn main(rt: HostRuntime) -> io::Result<()> {
     let mut sold: u64 = 0;
     let mut boarded: u64 = 0;
     for _ in 0..MOST_LINES {
-        let Some(line) = next_line(rt.alloc(), &mut input)? else {
+        let Some(line) = input.next_line(&mut line)? else {
             break;
         };
-        let Some(value) = bench_lines::value_in(&line) else {
-            println!(rt; "? bad")?;
+        let Some(value) = bench_lines::value_in(line) else {
+            rt.write_all(b"? bad\n")?;
             continue;
         };
         let answer = Answer(ledger::enter(&value, &mut table));
-        rt.write_all(&line)?;
+        rt.write_all(line)?;
         println!(rt; " {answer}")?;
         sold += u64::from(answer.sold(&value));
         boarded += u64::from(answer.boarded());
