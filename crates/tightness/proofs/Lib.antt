@@ -1,2 +1,3 @@
 pub mod Tightness
 pub mod Exported
+pub mod Refused
