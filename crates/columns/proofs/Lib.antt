@@ -1,4 +1,5 @@
 pub mod Columns
 pub mod Walks
 pub mod Fresh
+pub mod Ways
 mod Fills
