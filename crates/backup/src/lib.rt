@@ -146,7 +146,7 @@ pub fn step(settings: Settings, own: u32, packet: &mut [u8], tables: &mut Tables
     else {
         return Err(Refusal::WrongKind);
     };
-    let index = basics::place_of(settings.instances, instance)?;
+    let index = basics::place_of(settings.instances, instance)?; // of a promise
     let cell = tables.cell_at(index);
     let taken = backup_rule::take_promise(
         settings.acceptors,
