@@ -42,4 +42,4 @@ returns c =
     let text = c.args.text.now in
     let digits = c.loop-byte.invariant.digits ∙ digits-end 10 text c.loop-byte.byte-index (omega arith) in
     let number = c.loop-byte.invariant.goes_on ∙ number-ends text c.loop-byte.number c.loop-byte.byte-index (omega arith) in
-    c.ok.ensures.value ∙ decimal-is text (omega arith) (omega arith) digits c.loop-byte.number number c.try_from.result c.try_from.ensures
+    c.ok.ensures.value ∙ decimal-is text (omega arith) (omega arith) digits _ (omega (arith, number)) c.try_from.result c.try_from.ensures
