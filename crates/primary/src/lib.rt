@@ -36,7 +36,8 @@ pub extern "C" fn myrthakel_primary_fresh(acceptors: u32, instances: u32, next: 
     Verdict::Done as u32
 }
 
-// One packet, over the cell by value: the next cell, where a propose goes out to the acceptors. It judges M and N itself, so that the call by reference need not.
+// One packet, over the cell by value: the next cell, where a propose goes out to the acceptors.
+// It judges M and N itself, so that the call by reference need not.
 #[inline(always)]
 pub fn step(settings: Settings, cell: Cell, packet: &mut [u8]) -> Result<Cell, Refusal>
     ensures { stepped cell packet.new result ≡ primary_request settings packet.old cell }
